@@ -1,0 +1,10 @@
+pub mod Answers
+pub mod Refusals
+pub mod Calls
+pub mod Pieces
+pub mod RefusalLaws
+pub mod Accepted
+pub mod PieceLaws
+pub mod Same
+pub mod Demand3
+pub mod Alone

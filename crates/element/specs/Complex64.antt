@@ -1,0 +1,36 @@
+-- Derived from Complex32.antt by tools/derive: edit that.
+-- The kind complex f64 as its code has it: arithmetic, view, chunks and tile, its numbers, and its choice for old C as the definition's. Definitions only.
+use mathlib.Core.Path.{refl}
+use lib.Ieee.{nan, binary64}
+use Rattle.element.specs.Element.{Arith, Fate, overwrite, times, Complex, complex}
+use Rattle.element.specs.Slice.{View, complexView}
+use Rattle.element.specs.Held.{Held}
+use Rattle.element.specs.Kinds.{shapeOf}
+use Rattle.element.specs.declared.kind.Shape.{Shape}
+use Rattle.element.specs.declared.kind.Kind.{Kind}
+use Rattle.element.specs.declared.kind.Kind.the-variants.{C64}
+use Rattle.element.specs.declared.complex64.Complex64.{Complex64}
+use Rattle.element.specs.declared.complex64.Fate as code
+use Rattle.element.specs.declared.complex64.Fate.the-variants.{Overwrite, Times}
+
+abbrev pub kind : Kind
+kind = C64
+
+abbrev pub arith : Arith
+arith = complex binary64
+
+abbrev pub view : View Complex
+view = complexView
+
+abbrev pub shape : Shape
+shape = shapeOf C64
+
+abbrev pub asComplex : Complex64 → Complex
+asComplex z = record { re = z .re; im = z .im }
+
+abbrev pub held : Held arith Complex64
+held = record { of = λ z. record { re = z .re; im = z .im }; to = asComplex; blank = record { re = nan; im = nan }; back = λ e. refl }
+
+abbrev pub fateOf : code.Fate → Fate Complex
+fateOf Overwrite = overwrite
+fateOf (Times x) = times (asComplex x)
