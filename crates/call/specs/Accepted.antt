@@ -8,7 +8,7 @@ use Rattle.layout.specs.Tests.{all-inside, none-meet, not-large, modest}
 use Rattle.layout.specs.PartLaws.{readable-apart}
 use Rattle.call.specs.declared.judge.Matrices.{Matrices}
 use Rattle.call.specs.declared.judge.Lengths.{Lengths}
-use Rattle.call.specs.Refusals.{Verdict}
+use Rattle.call.specs.Demands.{Verdict}
 use Rattle.call.specs.RefusalLaws.{sizes-done, strides-done, c-done, apart-done, a-done, b-done}
 
 module _ (kind : Kind) (q : Matrices) (floats : Lengths) (v : Verdict kind q floats 0) where

@@ -9,7 +9,7 @@ use Rattle.element.specs.Slice.{Block}
 use Rattle.element.specs.declared.kind.Kind.{Kind}
 use Rattle.element.specs.Kinds.{arithOf, viewOf, shapeOf}
 use Rattle.layout.specs.Place.{indexOf}
-use Rattle.call.specs.Calls.{Call, rowOf, columnOf, Does}
+use Rattle.call.specs.Demands.{Call, rowOf, columnOf, Does}
 
 -- the element of C at (i, j)
 abbrev pub elementOf : {kind : Kind} → Call kind → List Float → ℕ → ℕ → arithOf kind .E

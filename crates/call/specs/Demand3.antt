@@ -7,22 +7,15 @@ use lib.ListN.{length}
 use lib.Ieee.{Float}
 use Rattle.element.specs.Slice.{Block}
 use Rattle.element.specs.Pieces.{Cuts}
-use Rattle.element.specs.GridLaws.{grid, ends-inside, even-starts}
+use Rattle.element.specs.Grid.{Grid}
+use Rattle.element.specs.GridLaws.{grid-cuts, ends-inside, even-starts}
 use Rattle.element.specs.declared.kind.Kind.{Kind}
 use Rattle.element.specs.Kinds.{shapeOf}
 use Rattle.call.specs.declared.answer.Answer.{Answer}
 use Rattle.call.specs.declared.judge.Lengths.{Lengths}
-use Rattle.call.specs.Answers.{numberOf}
-use Rattle.call.specs.Refusals.{Verdict}
+use Rattle.call.specs.Demands.{numberOf, Verdict, Call, matrices, lengths, Does, Outcome, Piece, pieceCall, gridPiece, Runs, Ends}
 use Rattle.call.specs.RefusalLaws.{verdict-same}
-use Rattle.call.specs.Calls.{Call, matrices, lengths, Does, Outcome}
-use Rattle.call.specs.Pieces.{Piece, Over, Fits, pieceCall, Runs, Grid, gridPiece}
-use Rattle.call.specs.PieceLaws.{piece-accepted, pieces-do, does-same, does-long}
-
--- "No piece is refused, and C ends as demand 2's definition says for the whole call."
-pub record Ends {kind : Kind} (q : Call kind) (A B : List Float) (N : ℕ) (slice : ℕ → List Float) (answer : ℕ → Answer) : Type 0 where
-  pub none-refused : (t : ℕ) → t < N → numberOf (answer t) ≡ 0
-  pub ends : Does kind A B q (slice 0) (slice N)
+use Rattle.call.specs.PieceLaws.{Over, Fits, piece-accepted, pieces-do, does-same, does-long}
 
 -- "Take an accepted call with no dimension zero."
 module _ {kind : Kind} (q : Call kind) (A B : List Float) (slice pack : ℕ → List Float) (answer : ℕ → Answer)
@@ -59,28 +52,26 @@ module _ {kind : Kind} (q : Call kind) (A B : List Float) (slice pack : ℕ → 
     }
 
   -- DEMAND 3, as the user has it: a grid of cells and stretches, run in any order that keeps each cell's stretches rising
-  pub demand3 : (g : Grid q) → Runs q A B (g .turns) (gridPiece g) slice pack answer → Ends q A B (g .turns) slice answer
+  pub demand3 : (g : Grid (shapeOf kind .kc) (q .m) (q .n) (q .k)) → Runs q A B (g .turns) (gridPiece g) slice pack answer → Ends q A B (g .turns) slice answer
   demand3 g runs =
       pieces-end (g .turns) (gridPiece g) fits runs
-      (λ t h. even-starts (shapeOf kind .kc) (g .depth-edge) (g .stretches) (g .depth-cut .first) (g .even) (g .stretch t) (g .order .range t h .2))
-      (grid (shapeOf kind .kc) (q .m) (q .n) (q .k) (g .rows) (g .columns) (g .stretches) (g .turns) (g .row-edge) (g .column-edge) (g .depth-edge)
-      (g .cell-row) (g .cell-column) (g .stretch) (g .row-cut) (g .column-cut) (g .depth-cut) (g .even) (g .order))
+      (λ t h. even-starts (g .depth) (shapeOf kind .kc) (g .even) (g .stretch t) (g .range t h .2)) (grid-cuts g)
     where
       fits : (t : ℕ) → t < g .turns → Fits q (gridPiece g t)
       fits t h =
-          let (a, b, c) = g .order .range t h in
+          let (a, b, c) = g .range t h in
           omega (
             arith,
-            g .row-cut .grows (g .cell-row t) a,
-            g .column-cut .grows (g .cell-column t) b,
-            g .depth-cut .grows (g .stretch t) c,
-            ends-inside (g .row-edge) (g .rows) (q .m) (g .row-cut) (g .cell-row t) a,
-            ends-inside (g .column-edge) (g .columns) (q .n) (g .column-cut) (g .cell-column t) b,
-            ends-inside (g .depth-edge) (g .stretches) (q .k) (g .depth-cut) (g .stretch t) c,
+            g .rows .grows (g .row t) a,
+            g .columns .grows (g .column t) b,
+            g .depth .grows (g .stretch t) c,
+            ends-inside (g .rows) (g .row t) a,
+            ends-inside (g .columns) (g .column t) b,
+            ends-inside (g .depth) (g .stretch t) c,
           )
 
   -- and so what the whole call itself would leave
-  pub demand3-same : (g : Grid q) → Runs q A B (g .turns) (gridPiece g) slice pack answer
+  pub demand3-same : (g : Grid (shapeOf kind .kc) (q .m) (q .n) (q .k)) → Runs q A B (g .turns) (gridPiece g) slice pack answer
       → (D Q : List Float) (r : Answer) → Outcome kind q A B (slice 0) D (pack 0) Q r → D ≡ slice (g .turns)
   demand3-same g runs D Q r o =
       let e = verdict-same kind (matrices q) (lengths A B (slice 0) (pack 0)) (numberOf r) 0 (o .answer) accepted in

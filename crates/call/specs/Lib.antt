@@ -1,7 +1,4 @@
-pub mod Answers
-pub mod Refusals
-pub mod Calls
-pub mod Pieces
+pub mod Demands
 pub mod RefusalLaws
 pub mod Accepted
 pub mod PieceLaws

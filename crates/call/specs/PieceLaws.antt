@@ -8,7 +8,7 @@ use lib.ListN.{length}
 use lib.Ieee.{Float}
 use Rattle.element.specs.Element.{multiplier, element}
 use Rattle.element.specs.Slice.{Updated, Block}
-use Rattle.element.specs.SliceLaws.{region?, Apart, moved, unique, placed?}
+use Rattle.element.specs.SliceLaws.{Region, region?, Apart, moved, unique, placed?}
 use Rattle.element.specs.ViewLaws.{lawful}
 use Rattle.element.specs.Pieces.{Proper, Cuts}
 use Rattle.element.specs.CuttingTheorem.{pieceRule, wholeRule, cut}
@@ -21,10 +21,15 @@ use Rattle.layout.specs.NeedLaws.{need-mono, kind-sides}
 use Rattle.layout.specs.Tests.{all-inside, none-meet, outside-or-inside, meet-or-apart, not-large, none-large}
 use Rattle.layout.specs.PartLaws.{part-inside, part-apart, inside-index, inside-apart}
 use Rattle.call.specs.declared.judge.Lengths.{Lengths}
-use Rattle.call.specs.Refusals.{Far, Verdict}
+use Rattle.call.specs.Demands.{Far, Verdict, Call, matrices, rowOf, columnOf, Does, Piece, pieceCall}
 use Rattle.call.specs.RefusalLaws.{done-full, sizes-done, strides-done, none-empty, c-done, apart-done, a-done, b-done, room-done}
-use Rattle.call.specs.Calls.{Call, matrices, rowOf, columnOf, Does}
-use Rattle.call.specs.Pieces.{Piece, Over, Fits, pieceCall}
+
+abbrev pub Over : Piece → ℕ → ℕ → Type 0
+Over p i j = Region (p .row) (p .rows) (p .column) (p .columns) i j
+
+-- the piece is not empty and lies in the call
+abbrev pub Fits : {kind : Kind} → Call kind → Piece → Type 0
+Fits q p = (p .row + p .rows ≤ q .m) × (p .column + p .columns ≤ q .n) × (p .depth + p .depths ≤ q .k) × (0 < p .rows) × (0 < p .columns) × (0 < p .depths)
 
 -- a piece steps along the whole's strides
 far-piece : {kind : Kind} (q : Call kind) (p : Piece) → Far (matrices (pieceCall q p)) → Far (matrices q)

@@ -10,7 +10,7 @@ use Rattle.layout.specs.Place.{SomeOutside, TwoMeet, LongStride}
 use Rattle.layout.specs.Need.{needOf, Large}
 use Rattle.call.specs.declared.judge.Matrices.{Matrices}
 use Rattle.call.specs.declared.judge.Lengths.{Lengths}
-use Rattle.call.specs.Refusals.{First, Far, Verdict}
+use Rattle.call.specs.Demands.{First, Far, Verdict}
 
 not-below : {x y : ℕ} → (x < y → ⊥) → y ≤ x
 not-below {x} {y} f = go (decLt x y)

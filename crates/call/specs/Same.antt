@@ -11,9 +11,8 @@ use Rattle.element.specs.Kinds.{shapeOf}
 use Rattle.layout.specs.Need.{needOf}
 use Rattle.call.specs.declared.answer.Answer.{Answer}
 use Rattle.call.specs.declared.answer.Answer.the-variants.{Done, TooLarge, TooFar, OutsideC, CollidesC, OutsideA, OutsideB, PackShort}
-use Rattle.call.specs.Answers.{numberOf}
+use Rattle.call.specs.Demands.{numberOf, Call, matrices, lengths, Kept, Outcome}
 use Rattle.call.specs.RefusalLaws.{verdict-same}
-use Rattle.call.specs.Calls.{Call, matrices, lengths, Kept, Outcome}
 use Rattle.call.specs.PieceLaws.{does-same}
 
 -- the answer of a number

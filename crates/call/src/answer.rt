@@ -1,6 +1,6 @@
 // What a call is answered. No counterpart in the Rust, which trusts its caller.
 ghost use mathlib.Core.Path.{_≡_};
-ghost use Rattle.call.specs.Answers.{numberOf};
+ghost use Rattle.call.specs.Demands.{numberOf};
 
 // Done, or the refusals in their order.
 pub enum Answer {

@@ -1,7 +1,6 @@
 // The refusals in document 01's order. Rust: the debug assertions of `gemm_loop` and `ensure_kernel_params`, gemm.rs.
-ghost use Rattle.layout.specs.Place.{Tells};
-ghost use Rattle.call.specs.Answers.{numberOf};
-ghost use Rattle.call.specs.Refusals.{Far, Verdict};
+ghost use Rattle.layout.specs.Operands.{Tells};
+ghost use Rattle.call.specs.Demands.{numberOf, Far, Verdict};
 use crate::answer::Answer;
 use element::kind::Kind;
 use layout::checks::collides;

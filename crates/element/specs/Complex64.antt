@@ -1,4 +1,4 @@
--- Derived from Complex32.antt by tools/derive: edit that.
+-- Derived from crates/element/specs/Complex32.antt by tools/derive: edit that.
 -- The kind complex f64 as its code has it: arithmetic, view, chunks and tile, its numbers, and its choice for old C as the definition's. Definitions only.
 use mathlib.Core.Path.{refl}
 use lib.Ieee.{nan, binary64}

@@ -22,15 +22,7 @@ abbrev pub +1 : Float
 
 -- rule 2: the product is rounded, then added to the sum and rounded; rule 6: -0.0 compares equal to 0, NaN does not
 abbrev pub real : Format → Arith
-real f = record {
-  E = Float;
-  nought = +0;
-  one = +1;
-  step = λ s a b. add f s (mul f a b);
-  mul = λ x y. mul f x y;
-  add = λ x y. add f x y;
-  isZero = λ x. eq x +0;
-}
+real f = record { E = Float; nought = +0; one = +1; step = λ s a b. add f s (mul f a b); mul = λ x y. mul f x y; add = λ x y. add f x y; isZero = λ x. eq x +0 }
 
 pub record Complex : Type 0 where
   pub re : Float
@@ -42,14 +34,8 @@ complex f = record {
   E = Complex;
   nought = record { re = +0; im = +0 };
   one = record { re = +1; im = +0 };
-  step = λ s a b. record {
-    re = add f (add f (s .re) (mul f (a .re) (b .re))) (mul f (neg (a .im)) (b .im));
-    im = add f (add f (s .im) (mul f (a .re) (b .im))) (mul f (a .im) (b .re));
-  };
-  mul = λ x y. record {
-    re = sub f (mul f (x .re) (y .re)) (mul f (x .im) (y .im));
-    im = add f (mul f (x .im) (y .re)) (mul f (x .re) (y .im));
-  };
+  step = λ s a b. record { re = add f (add f (s .re) (mul f (a .re) (b .re))) (mul f (neg (a .im)) (b .im)); im = add f (add f (s .im) (mul f (a .re) (b .im))) (mul f (a .im) (b .re)) };
+  mul = λ x y. record { re = sub f (mul f (x .re) (y .re)) (mul f (x .im) (y .im)); im = add f (mul f (x .im) (y .re)) (mul f (x .re) (y .im)) };
   add = λ x y. record { re = add f (x .re) (y .re); im = add f (x .im) (y .im) };
   isZero = λ x. eq (x .re) +0 && eq (x .im) +0;
 }

@@ -1,25 +1,27 @@
 -- Demand 3's grids: C's rows and columns cut anywhere, the depth cut at multiples of the chunk length, cells mixed at will. Definitions only.
-use Prim.Native.Nat.{ℕ, suc, _+_, _-_, _*_, _<_}
+use Prim.Native.Nat.{ℕ, suc, _+_, _*_, _<_}
 use mathlib.Core.Path.{_≡_}
-use Rattle.element.specs.Slice.{Region}
 
--- e cuts what is below m into R stretches that are not empty: stretch x is from e x up to e (x + 1)
-pub record Edges (e : ℕ → ℕ) (R m : ℕ) : Type 0 where
-  pub first : e 0 ≡ 0
-  pub last : e R ≡ m
-  pub grows : (x : ℕ) → x < R → e x < e (suc x)
+-- What is below m, cut into stretches that are not empty: stretch x is from `edge x` up to `edge (x + 1)`.
+pub record Cut (m : ℕ) : Type 0 where
+  pub count : ℕ
+  pub edge : ℕ → ℕ
+  pub first : edge 0 ≡ 0
+  pub last : edge count ≡ m
+  pub grows : (x : ℕ) → x < count → edge x < edge (suc x)
 
--- each but the last is a multiple of kc long
-abbrev pub Even : ℕ → (ℕ → ℕ) → ℕ → Type 0
-Even kc g D = (s : ℕ) → suc s < D → (q : ℕ) × (g (suc s) ≡ g s + q * kc)
-
--- N turns go through all of R by S cells and D stretches, each once, each cell's stretches in rising order
-pub record Order (R S D N : ℕ) (x y z : ℕ → ℕ) : Type 0 where
-  pub each : (p q s : ℕ) → p < R → q < S → s < D → (t : ℕ) × (t < N) × (x t ≡ p) × (y t ≡ q) × (z t ≡ s)
-  pub range : (t : ℕ) → t < N → (x t < R) × (y t < S) × (z t < D)
-  pub once : (t u : ℕ) → t < N → u < N → x t ≡ x u → y t ≡ y u → z t ≡ z u → t ≡ u
-  pub rising : (t u : ℕ) → t < u → u < N → x t ≡ x u → y t ≡ y u → z t < z u
-
--- the cell at (x, y) of the grid
-abbrev pub Cell : (ℕ → ℕ) → (ℕ → ℕ) → ℕ → ℕ → ℕ → ℕ → Type 0
-Cell e f x y i j = Region (e x) (e (suc x) - e x) (f y) (f (suc y) - f y) i j
+-- A grid over m rows, n columns and the depth k: "non-empty cells", "non-empty stretches, each but the last a multiple" of kc long. Turn t runs
+-- stretch `stretch t` of the cell in row `row t` and column `column t`: each once, "each cell's stretches in rising order, cells mixed at will".
+pub record Grid (kc m n k : ℕ) : Type 0 where
+  pub rows : Cut m
+  pub columns : Cut n
+  pub depth : Cut k
+  pub even : (s : ℕ) → suc s < depth .count → (q : ℕ) × (depth .edge (suc s) ≡ depth .edge s + q * kc)
+  pub turns : ℕ
+  pub row : ℕ → ℕ
+  pub column : ℕ → ℕ
+  pub stretch : ℕ → ℕ
+  pub range : (t : ℕ) → t < turns → (row t < rows .count) × (column t < columns .count) × (stretch t < depth .count)
+  pub each : (x y z : ℕ) → x < rows .count → y < columns .count → z < depth .count → (t : ℕ) × (t < turns) × (row t ≡ x) × (column t ≡ y) × (stretch t ≡ z)
+  pub once : (t u : ℕ) → t < turns → u < turns → row t ≡ row u → column t ≡ column u → stretch t ≡ stretch u → t ≡ u
+  pub rising : (t u : ℕ) → t < u → u < turns → row t ≡ row u → column t ≡ column u → stretch t < stretch u

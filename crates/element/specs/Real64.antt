@@ -1,4 +1,4 @@
--- Derived from Real32.antt by tools/derive: edit that.
+-- Derived from crates/element/specs/Real32.antt by tools/derive: edit that.
 -- The kind f64 as its code has it: arithmetic, view, chunks and tile, its numbers, and its choice for old C as the definition's. Definitions only.
 use mathlib.Core.Path.{refl}
 use lib.Ieee.{Float, nan, binary64}

@@ -1,5 +1,5 @@
 -- How elements lie in a slice of floats, and the one relation by which every level speaks of C's slice before and after. Definitions only.
-use Prim.Native.Nat.{ℕ, _+_, _*_, _/_, _≤_, _<_}
+use Prim.Native.Nat.{ℕ, _+_, _*_, _/_, _<_}
 use mathlib.Core.Path.{_≡_}
 use mathlib.Core.Logic.{_≢_}
 use mathlib.Core.List.{List}
@@ -30,9 +30,6 @@ pub record Updated {E : Type 0} (v : View E) (place : ℕ → ℕ → ℕ) (P : 
   pub inside : (i j : ℕ) → P i j → v .get D (place i j) ≡ f i j (v .get C (place i j))
   pub outside : (t : ℕ) → ((i j : ℕ) → P i j → place i j ≢ v .owner t) → getD D t nan ≡ getD C t nan
 
--- rows below m, columns below n; and m rows from r on, n columns from c on
+-- rows below m, columns below n
 abbrev pub Block : ℕ → ℕ → ℕ → ℕ → Type 0
 Block m n i j = (i < m) × (j < n)
-
-abbrev pub Region : ℕ → ℕ → ℕ → ℕ → ℕ → ℕ → Type 0
-Region r m c n i j = (r ≤ i) × (i < r + m) × (c ≤ j) × (j < c + n)

@@ -8,8 +8,12 @@ use native.Mathlib.Omega.{arith}
 use lib.ListN.{length, getD}
 use lib.Seq.{ext-getD}
 use lib.Ieee.{Float, nan}
-use Rattle.element.specs.Slice.{View, Updated, Block, Region}
+use Rattle.element.specs.Slice.{View, Updated, Block}
 use Rattle.element.specs.ViewLaws.{Lawful}
+
+-- m rows from r on, n columns from c on
+abbrev pub Region : ℕ → ℕ → ℕ → ℕ → ℕ → ℕ → Type 0
+Region r m c n i j = (r ≤ i) × (i < r + m) × (c ≤ j) × (j < c + n)
 
 pub block? : (m n i j : ℕ) → Dec (Block m n i j)
 block? m n i j = Dec·and (decLt i m) (decLt j n)

@@ -7,7 +7,8 @@ use lib.ListN.{length, getD, set, length-set}
 use lib.Seq.{getD-set-same, getD-set-other}
 use lib.Ieee.{Float, nan}
 use Rattle.element.specs.Element.{Complex}
-use Rattle.element.specs.Slice.{Updated, Region, realView, complexView}
+use Rattle.element.specs.Slice.{Updated, realView, complexView}
+use Rattle.element.specs.SliceLaws.{Region}
 
 -- one element stored
 pub stored : (place : ℕ → ℕ → ℕ) (i j : ℕ) (f : ℕ → ℕ → Float → Float) (C : List Float) → place i j < length C
@@ -52,3 +53,8 @@ stored-pair place i j f C h = record {
 pub stored-at : (place : ℕ → ℕ → ℕ) (i j : ℕ) (f : ℕ → ℕ → Float → Float) (C : List Float) {at : ℕ} {r : Float} → at ≡ place i j → r ≡ f i j (getD C at nan)
     → place i j < length C → Updated realView place (Region i 1 j 1) f C (set C at r)
 stored-at place i j f C {at} {r} e g h = rw (g, e) (stored place i j f C h)
+
+-- the same of two floats
+pub stored-pair-at : (place : ℕ → ℕ → ℕ) (i j : ℕ) (f : ℕ → ℕ → Complex → Complex) (C : List Float) (z : Complex) {at : ℕ} → at ≡ place i j → z ≡ f i j (complexView .get C at)
+    → place i j * 2 + 1 < length C → Updated complexView place (Region i 1 j 1) f C (set (set C (at * 2) (z .re)) (at * 2 + 1) (z .im))
+stored-pair-at place i j f C z {at} e g h = rw (g, e) (stored-pair place i j f C h)

@@ -1,4 +1,4 @@
-// Derived from complex32.rt by tools/derive: edit that.
+// Derived from crates/element/src/complex32.rt by tools/derive: edit that.
 // The kind complex f64: its chunks and its tile, its arithmetic, what becomes of old C. Rust: c64, `impl Element for c64` and c64_mul in
 // kernel.rs, Z_MC, Z_KC and Z_NC in archparam_defaults.rs.
 ghost use mathlib.Core.Path.{_≡_};

@@ -12,16 +12,13 @@ use Rattle.layout.specs.declared.need.PackLength.the-variants.{TooLarge,
 unfoldable pub roundUp : ℕ → ℕ → ℕ
 roundUp x t = (x + (t - 1)) / t * t
 
--- "p times (x + y)"
-abbrev pub packed : Shape → ℕ → ℕ → ℕ → ℕ
-packed s m k n = min k (s .kc) * (roundUp (min m (s .mc)) (s .mr) + roundUp (min n (s .nc)) (s .nr))
-
--- "zero if m, k or n is zero"
+-- "p times (x + y)"; "zero if m, k or n is zero"
 unfoldable pub needOf : Shape → ℕ → ℕ → ℕ → ℕ
 needOf s zero k n = 0
 needOf s (suc m) zero n = 0
 needOf s (suc m) (suc k) zero = 0
-needOf s (suc m) (suc k) (suc n) = packed s (suc m) (suc k) (suc n)
+needOf s (suc m) (suc k) (suc n) =
+    min (suc k) (s .kc) * (roundUp (min (suc m) (s .mc)) (s .mr) + roundUp (min (suc n) (s .nc)) (s .nr))
 
 -- "m, k or n is above 65,536"
 abbrev pub Large : ℕ → ℕ → ℕ → Type 0

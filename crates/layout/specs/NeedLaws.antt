@@ -11,7 +11,7 @@ use Rattle.element.specs.declared.kind.Shape.{Shape}
 use Rattle.element.specs.Kinds.{shapeOf}
 use Rattle.layout.specs.declared.need.PackLength.{PackLength}
 use Rattle.layout.specs.declared.need.PackLength.the-variants.{TooLarge, Elements}
-use Rattle.layout.specs.Need.{roundUp, packed, needOf, Large, refusalOf, lengthOf, PackLengthIs}
+use Rattle.layout.specs.Need.{roundUp, needOf, Large, refusalOf, lengthOf, PackLengthIs}
 
 -- ---- rounding up, as the code does it
 
@@ -39,6 +39,10 @@ unfolding roundUp
 round-mono {a} {b} t h l = mul-le-mul-right t (div-mono t h (omega arith))
 
 -- ---- need
+
+-- the need where no size is zero
+abbrev pub packed : Shape → ℕ → ℕ → ℕ → ℕ
+packed s m k n = min k (s .kc) * (roundUp (min m (s .mc)) (s .mr) + roundUp (min n (s .nc)) (s .nr))
 
 min-mono : {a b : ℕ} (c : ℕ) → a ≤ b → min a c ≤ min b c
 min-mono {a} {b} c l = le-min (le-trans (min-le-left a c) l) (min-le-right a c)

@@ -6,8 +6,8 @@ use native.Mathlib.Nat.{zero-add, add-mul}
 use native.Mathlib.Omega.{arith}
 use lib.IntN.{pos, negsuc, natAbs}
 use lib.Ieee.{Float}
-use Rattle.element.specs.Slice.{View, Updated, Block, Region}
-use Rattle.element.specs.SliceLaws.{Apart, agreeing, moved, elsewhere, rows, columns}
+use Rattle.element.specs.Slice.{View, Updated, Block}
+use Rattle.element.specs.SliceLaws.{Region, Apart, agreeing, moved, elsewhere, rows, columns}
 use Rattle.element.specs.ViewLaws.{Lawful}
 use Rattle.layout.specs.declared.operand.Operand.{Operand}
 use Rattle.layout.specs.Place.{placeOf, Outside, SomeOutside, TwoMeet, indexOf, partOf}

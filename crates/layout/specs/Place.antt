@@ -1,6 +1,5 @@
 -- Where the places of an operand lie, when one is outside its slice, when two are the same element. Definitions only.
 use mathlib.Core.Path.{_≡_}
-use mathlib.Core.Bool.{Bool, true, false}
 use mathlib.Core.Logic.{_⊎_}
 use Prim.Native.Nat.{ℕ, _<_, _≤_}
 use lib.IntN.{ℤ, pos, negsuc, natAbs, _+ℤ_, _*ℤ_}
@@ -40,14 +39,9 @@ pub record TwoMeet (m n : ℕ) (o : Operand) : Type 0 where
 abbrev pub LongStride : Operand → Type 0
 LongStride o = (2147483648 < natAbs (o .rs)) ⊎ (2147483648 < natAbs (o .cs))
 
--- the index of a place that is not negative; and the same strides from place (r,c) on
+-- the index of a place that is not negative; the same strides from place (r,c) on
 abbrev pub indexOf : Operand → ℕ → ℕ → ℕ
 indexOf o i j = natAbs (placeOf o i j)
 
 abbrev pub partOf : Operand → ℕ → ℕ → Operand
 partOf o r c = record { base = indexOf o r c; rs = o .rs; cs = o .cs }
-
--- a test tells whether P holds
-pub record Tells (r : Bool) (P : Type 0) : Type 0 where
-  pub if-true : r ≡ true → P
-  pub if-false : r ≡ false → P → ⊥

@@ -8,8 +8,8 @@ use lib.Dec.{ltb}
 use lib.IntN.{ℤ, pos, negsuc, natAbs}
 use Rattle.layout.specs.declared.operand.Operand.{Operand}
 use Rattle.layout.specs.declared.strides.Split.{Split}
-use Rattle.layout.specs.Place.{LongStride, Tells}
-use Rattle.layout.specs.Operands.{Modest}
+use Rattle.layout.specs.Place.{LongStride}
+use Rattle.layout.specs.Operands.{Tells, Modest}
 use Rattle.layout.specs.Tests.{tells-above}
 use Rattle.layout.specs.Signs.{up, dn, abs-is}
 

@@ -9,9 +9,9 @@ use lib.Dec.{ltb}
 use lib.IntN.{ℤ, pos, negsuc, natAbs}
 use borrow.Author.Tests.{ltb-true, ltb-false}
 use Rattle.layout.specs.declared.operand.Operand.{Operand}
-use Rattle.layout.specs.Place.{placeOf, Outside, SomeOutside, TwoMeet, LongStride, Tells}
+use Rattle.layout.specs.Place.{placeOf, Outside, SomeOutside, TwoMeet, LongStride}
+use Rattle.layout.specs.Operands.{Tells, Inside, AllInside, NoneMeet, Modest}
 use Rattle.layout.specs.Need.{Large}
-use Rattle.layout.specs.Operands.{Inside, AllInside, NoneMeet, Modest}
 
 -- ---- a test that tells
 

@@ -2,8 +2,8 @@
 // only debug assertions here.
 ghost use mathlib.Core.Path.{_≡_};
 ghost use Prim.Native.Nat.{_<_};
-ghost use Rattle.layout.specs.Place.{SomeOutside, TwoMeet, LongStride, Tells};
-ghost use Rattle.layout.specs.Operands.{Modest};
+ghost use Rattle.layout.specs.Place.{SomeOutside, TwoMeet, LongStride};
+ghost use Rattle.layout.specs.Operands.{Tells, Modest};
 ghost use Rattle.layout.specs.Gcd.{Steps};
 use crate::operand::Operand;
 use crate::strides::reach;

@@ -2,7 +2,7 @@
 ghost use mathlib.Core.Path.{_≡_};
 ghost use Rattle.element.specs.Kinds.{shapeOf};
 ghost use Rattle.layout.specs.Need.{needOf, Large, PackLengthIs};
-ghost use Rattle.layout.specs.Place.{Tells};
+ghost use Rattle.layout.specs.Operands.{Tells};
 use crate::util::least;
 use crate::util::round_up_to;
 use element::kind::Kind;

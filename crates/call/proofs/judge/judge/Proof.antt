@@ -10,7 +10,7 @@ use Rattle.layout.specs.Place.{SomeOutside, TwoMeet}
 use Rattle.layout.specs.Need.{Large}
 use Rattle.layout.specs.Operands.{Modest}
 use Rattle.layout.specs.Tests.{not-large, modest}
-use Rattle.call.specs.Refusals.{Far}
+use Rattle.call.specs.Demands.{Far}
 use Rattle.call.specs.RefusalLaws.{none-empty, refuse-1, refuse-2, done-empty, refuse-3, refuse-4, done-flat, refuse-5, refuse-6, refuse-7, done-full}
 use Rattle.call.proofs.judge.judge.Statement.{statement}
 use Rattle.call.proofs.judge.judge.Tie as tie

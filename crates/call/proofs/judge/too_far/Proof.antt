@@ -1,7 +1,8 @@
 -- `too_far` meets its contract: the three operands' tests, one after the other. Assumes nothing.
 use mathlib.Core.Logic.{_⊎_, inl, inr}
 use borrow.Author.Needs.{needs}
-use Rattle.layout.specs.Place.{Tells, LongStride}
+use Rattle.layout.specs.Place.{LongStride}
+use Rattle.layout.specs.Operands.{Tells}
 use Rattle.layout.specs.Tests.{tells-true, tells-by}
 use Rattle.call.proofs.judge.too_far.Statement.{statement}
 use Rattle.call.proofs.judge.too_far.Tie as tie

@@ -6,8 +6,8 @@ use native.Mathlib.Omega.{arith}
 use borrow.Author.Needs.{needs}
 use Rattle.element.specs.declared.kind.Shape.{Shape}
 use Rattle.element.specs.Kinds.{shapeOf}
-use Rattle.layout.specs.Need.{roundUp, packed}
-use Rattle.layout.specs.NeedLaws.{need-some, need-no-m, need-no-k, need-no-n, Small, small-at, sides-max, packed-max}
+use Rattle.layout.specs.Need.{roundUp}
+use Rattle.layout.specs.NeedLaws.{packed, need-some, need-no-m, need-no-k, need-no-n, Small, small-at, sides-max, packed-max}
 use Rattle.layout.proofs.need.need.Statement.{statement}
 use Rattle.layout.proofs.need.need.Tie as tie
 

@@ -1,0 +1,71 @@
+-- `times` meets its contract: below i the tile's rows are alpha times what they were. Assumes nothing.
+use Prim.Native.Nat.{_-_}
+use mathlib.Core.Path.{ap, _∙_}
+use mathlib.Core.List.{List, []}
+use native.Mathlib.Omega.{arith}
+use lib.ListN.{getD}
+use Rattle.element.specs.declared.complex32.Complex32.{Complex32}
+use Rattle.element.specs.Complex32.{asComplex, shape}
+use Rattle.loops.specs.Tiles.{Filled}
+use Rattle.loops.specs.TileLaws.{filled-none, filled-more, filled-all}
+use Rattle.cgemm_kernel.proofs.Laws.{rowTimes}
+use borrow.Author.Needs.{needs}
+use Rattle.cgemm_kernel.proofs.kernel.times.Statement.{statement}
+use Rattle.cgemm_kernel.proofs.kernel.times.Tie as tie
+
+abbrev Inv-loop : tie.InvT-loop
+Inv-loop alpha u₀ i₀ u i = Filled [] (shape .mr) i (λ i. rowTimes (asComplex alpha) (getD u₀ i [])) u₀ u
+
+abbrev μ-loop : tie.MeasureT-loop
+μ-loop alpha u₀ i₀ u i = shape .mr - i
+
+loop-holds : tie.Need-loop-holds Inv-loop μ-loop
+loop-holds c = filled-none _ _ _ _ (search needs)
+
+mul-row-times : tie.Need-mul-row-times Inv-loop μ-loop
+mul-row-times c = search needs
+
+array-copy-out-row-times : tie.Need-array-copy-out-row-times Inv-loop μ-loop
+array-copy-out-row-times c = search needs
+
+row-times-requires : tie.Need-row-times-requires Inv-loop μ-loop
+row-times-requires c κs = search needs
+
+mul-u : tie.Need-mul-u Inv-loop μ-loop
+mul-u c = search needs
+
+array-set-from-u : tie.Need-array-set-from-u Inv-loop μ-loop
+array-set-from-u c = search needs
+
+add-i : tie.Need-add-i Inv-loop μ-loop
+add-i c = search needs
+
+loop-less : tie.Need-loop-less Inv-loop μ-loop
+loop-less c = search needs
+
+loop-again : tie.Need-loop-again Inv-loop μ-loop
+loop-again c =
+    let k = c .before .before .before .loop in
+    let alpha = c .before .before .before .before .args .alpha in
+    filled-more _ _ _ _ (k .i) (k .inv) (c .before .before .loop-test .taken)
+    (c .row-times .ensures ∙ ap (λ (z : List Complex32). rowTimes (asComplex alpha) z) (k .inv .left (k .i) (omega arith)))
+
+returns : tie.Need-returns Inv-loop μ-loop
+returns c = filled-all _ _ _ _ (c .before .loop .i) (c .before .loop .inv) (c .loop-test .left)
+
+pub times-spec : {M : Type 1} → statement M
+times-spec =
+    tie.close
+    (tie.spec
+    Inv-loop
+    μ-loop
+    loop-holds
+    mul-row-times
+    array-copy-out-row-times
+    row-times-requires
+    mul-u
+    array-set-from-u
+    add-i
+    loop-less
+    loop-again
+    returns)

@@ -1,0 +1,77 @@
+-- Derived from crates/sgemm_kernel/proofs/kernel/row_step/Proof.antt by tools/derive: edit that.
+-- `row_step` meets its contract: the row's cells are stepped in order, the row is `Filled` below j. Assumes nothing.
+use Prim.Native.Nat.{_-_}
+use mathlib.Core.Path.{ap, _∙_}
+use native.Mathlib.Omega.{arith}
+use lib.ListN.{getD}
+use Rattle.element.specs.Real64.{arith as ar, held, shape}
+use Rattle.loops.specs.Tiles.{Filled}
+use Rattle.loops.specs.TileLaws.{filled-none, filled-more, filled-all}
+use borrow.Author.Needs.{needs}
+use Rattle.dgemm_kernel.proofs.kernel.row_step.Statement.{statement}
+use Rattle.dgemm_kernel.proofs.kernel.row_step.Tie as tie
+
+abbrev Inv-loop : tie.InvT-loop
+Inv-loop x y u₀ j₀ u j = Filled (held .blank) (shape .nr) j (λ j. ar .step (getD u₀ j (held .blank)) x (getD y j (held .blank))) u₀ u
+
+abbrev μ-loop : tie.MeasureT-loop
+μ-loop x y u₀ j₀ u j = shape .nr - j
+
+loop-holds : tie.Need-loop-holds Inv-loop μ-loop
+loop-holds c = filled-none _ _ _ _ (search needs)
+
+mul-step : tie.Need-mul-step Inv-loop μ-loop
+mul-step c = search needs
+
+array-read-step : tie.Need-array-read-step Inv-loop μ-loop
+array-read-step c = search needs
+
+mul-step-2 : tie.Need-mul-step-2 Inv-loop μ-loop
+mul-step-2 c = search needs
+
+array-read-step-2 : tie.Need-array-read-step-2 Inv-loop μ-loop
+array-read-step-2 c = search needs
+
+step-requires : tie.Need-step-requires Inv-loop μ-loop
+step-requires c κs = search needs
+
+mul-u : tie.Need-mul-u Inv-loop μ-loop
+mul-u c = search needs
+
+array-write-u : tie.Need-array-write-u Inv-loop μ-loop
+array-write-u c = search needs
+
+add-j : tie.Need-add-j Inv-loop μ-loop
+add-j c = search needs
+
+loop-less : tie.Need-loop-less Inv-loop μ-loop
+loop-less c = search needs
+
+loop-again : tie.Need-loop-again Inv-loop μ-loop
+loop-again c =
+    let k = c .before .before .loop in
+    let s = c .before .before .before .args in
+    filled-more _ _ _ _ (k .j) (k .inv) (c .before .loop-test .taken)
+    (c .step .ensures ∙ ap (λ z. ar .step z (s .x) (getD (s .t3) (k .j) (held .blank))) (k .inv .left (k .j) (omega arith)))
+
+returns : tie.Need-returns Inv-loop μ-loop
+returns c = filled-all _ _ _ _ (c .before .loop .j) (c .before .loop .inv) (c .loop-test .left)
+
+pub row-step-spec : {M : Type 1} → statement M
+row-step-spec =
+    tie.close
+    (tie.spec
+    Inv-loop
+    μ-loop
+    loop-holds
+    mul-step
+    array-read-step
+    mul-step-2
+    array-read-step-2
+    step-requires
+    mul-u
+    array-write-u
+    add-j
+    loop-less
+    loop-again
+    returns)

@@ -1,0 +1,12 @@
+pub mod Tiles
+pub mod TileLaws
+pub mod Panels
+pub mod PanelLaws
+pub mod NeighbourLaws
+pub mod Work
+pub mod PutLaws
+pub mod LoopLaws
+pub mod BufferLaws
+pub mod DepthLoop
+pub mod ColumnLoop
+pub mod OutcomeLaws

@@ -1,0 +1,70 @@
+-- `put_row` meets its contract: below j the row's elements are put, the length is kept. Assumes nothing.
+use Prim.Native.Nat.{_-_, _≤_}
+use mathlib.Core.Path.{_≡_, refl}
+use native.Mathlib.Omega.{arith}
+use lib.ListN.{length, getD}
+use Rattle.element.specs.Element.{put}
+use Rattle.element.specs.Slice.{Updated}
+use Rattle.element.specs.SliceLaws.{Region, untouched}
+use Rattle.element.specs.ViewLaws.{real-lawful}
+use Rattle.element.specs.Real32.{arith as ar, view, held, fateOf}
+use Rattle.layout.specs.Place.{indexOf}
+use Rattle.layout.specs.PartLaws.{writable-long}
+use Rattle.loops.specs.PutLaws.{row-next}
+use borrow.Author.Needs.{needs}
+use Rattle.sgemm_kernel.proofs.masked.put_row.Statement.{statement}
+use Rattle.sgemm_kernel.proofs.masked.put_row.Tie as tie
+
+abbrev Inv-loop : tie.InvT-loop
+Inv-loop fate c₀ lc rows cols i ab j₀ c j = (j ≤ cols) × (length c ≡ length c₀) × Updated view (indexOf lc) (Region i 1 0 j) (λ i j. put ar (fateOf fate) (getD ab j (held .blank))) c₀ c
+
+abbrev μ-loop : tie.MeasureT-loop
+μ-loop fate c₀ lc rows cols i ab j₀ c j = cols - j
+
+loop-holds : tie.Need-loop-holds Inv-loop μ-loop
+loop-holds c = (omega arith, refl, untouched view _ (λ i j p. omega arith))
+
+mul-part : tie.Need-mul-part Inv-loop μ-loop
+mul-part c = search needs
+
+array-read-part : tie.Need-array-read-part Inv-loop μ-loop
+array-read-part c = search needs
+
+put-one-requires : tie.Need-put-one-requires Inv-loop μ-loop
+put-one-requires c κs =
+    let s = c .before .before .before .before in
+    (writable-long (c .before .before .loop .inv .1) (s .pre .0), (omega arith, omega arith))
+
+add-j : tie.Need-add-j Inv-loop μ-loop
+add-j c = search needs
+
+loop-less : tie.Need-loop-less Inv-loop μ-loop
+loop-less c = search needs
+
+loop-again : tie.Need-loop-again Inv-loop μ-loop
+loop-again c =
+    let s = c .before .before .before .before .before .before .before in
+    let k = c .before .before .before .before .before .loop in
+    (omega arith, search needs, row-next real-lawful (s .pre .0) (held .blank) (put ar (fateOf (s .args .fate))) (s .args .i) (k .j) (s .args .t1) (omega arith) (omega arith) (k .inv .2) (c .before .before .put-one .ensures))
+
+same-length : tie.Need-same-length Inv-loop μ-loop
+same-length c = search needs
+
+returns : tie.Need-returns Inv-loop μ-loop
+returns c = let e : c .before .loop .j ≡ c .before .before .before .args .cols = omega arith in rw e at (c .before .loop .inv .2)
+
+pub put-row-spec : {M : Type 1} → statement M
+put-row-spec =
+    tie.close
+    (tie.spec
+    Inv-loop
+    μ-loop
+    loop-holds
+    mul-part
+    array-read-part
+    put-one-requires
+    add-j
+    loop-less
+    loop-again
+    same-length
+    returns)

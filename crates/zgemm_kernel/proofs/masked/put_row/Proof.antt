@@ -1,0 +1,77 @@
+-- Derived from crates/cgemm_kernel/proofs/masked/put_row/Proof.antt by tools/derive: edit that.
+-- `put_row` meets its contract: below column j the row is put, and C is as long as it was. Assumes nothing.
+use Prim.Native.Nat.{ℕ, _-_, _≤_}
+use mathlib.Core.Path.{_≡_, refl, ap}
+use native.Mathlib.Omega.{arith}
+use lib.ListN.{length, getD}
+use Rattle.element.specs.declared.complex64.Complex64.{Complex64}
+use Rattle.element.specs.Element.{put}
+use Rattle.element.specs.Slice.{Updated}
+use Rattle.element.specs.SliceLaws.{Region, untouched}
+use Rattle.element.specs.ViewLaws.{complex-lawful}
+use Rattle.element.specs.Complex64.{arith as kind, view, held, asComplex, fateOf}
+use Rattle.layout.specs.Place.{indexOf}
+use Rattle.layout.specs.PartLaws.{writable-long}
+use Rattle.loops.specs.PutLaws.{row-next}
+use borrow.Author.Needs.{needs}
+use Rattle.zgemm_kernel.proofs.masked.put_row.Statement.{statement}
+use Rattle.zgemm_kernel.proofs.masked.put_row.Tie as tie
+
+abbrev Inv-loop : tie.InvT-loop
+Inv-loop fate c₀ lc rows cols i ab j₀ c j =
+    (j ≤ cols) × (length c ≡ length c₀) × Updated view (indexOf lc) (Region i 1 0 j) (λ i j. put kind (fateOf fate) (asComplex (getD ab j (held .blank)))) c₀ c
+
+abbrev μ-loop : tie.MeasureT-loop
+μ-loop fate c₀ lc rows cols i ab j₀ c j = cols - j
+
+loop-holds : tie.Need-loop-holds Inv-loop μ-loop
+loop-holds c = (omega arith, refl, untouched view _ (λ i j p. omega arith))
+
+mul-part : tie.Need-mul-part Inv-loop μ-loop
+mul-part c = search needs
+
+array-copy-out-part : tie.Need-array-copy-out-part Inv-loop μ-loop
+array-copy-out-part c = search needs
+
+put-one-requires : tie.Need-put-one-requires Inv-loop μ-loop
+put-one-requires c κs =
+    let s = c .before .before .before .before .before in
+    (writable-long (ap (λ (n : ℕ). view .count n) (c .before .before .before .loop .inv .1)) (s .pre .0), (s .pre .1 .0, c .before .before .loop-test .taken))
+
+add-j : tie.Need-add-j Inv-loop μ-loop
+add-j c = search needs
+
+loop-less : tie.Need-loop-less Inv-loop μ-loop
+loop-less c = search needs
+
+loop-again : tie.Need-loop-again Inv-loop μ-loop
+loop-again c =
+    let s = c .before .before .before .before .before .before .before .before in
+    let k = c .before .before .before .before .before .before .loop in (
+      omega arith,
+      search needs,
+      row-next complex-lawful (s .pre .0) (held .blank) (λ (x : Complex64). put kind (fateOf (s .args .fate)) (asComplex x)) (s .args .i) (k .j) (s .args .t1)
+          (s .pre .1 .0) (c .before .before .before .before .before .loop-test .taken) (k .inv .2) (c .before .before .put-one .ensures),
+    )
+
+same-length : tie.Need-same-length Inv-loop μ-loop
+same-length c = search needs
+
+returns : tie.Need-returns Inv-loop μ-loop
+returns c = let e : c .before .loop .j ≡ c .before .before .before .args .cols = omega arith in rw e at (c .before .loop .inv .2)
+
+pub put-row-spec : {M : Type 1} → statement M
+put-row-spec =
+    tie.close
+    (tie.spec
+    Inv-loop
+    μ-loop
+    loop-holds
+    mul-part
+    array-copy-out-part
+    put-one-requires
+    add-j
+    loop-less
+    loop-again
+    same-length
+    returns)
