@@ -1,7 +1,6 @@
 -- How elements lie in a slice of floats, and the one relation by which every level speaks of C's slice before and after. Definitions only.
 use Prim.Native.Nat.{ℕ, _+_, _*_, _/_, _<_}
 use mathlib.Core.Path.{_≡_}
-use mathlib.Core.Logic.{_≢_}
 use mathlib.Core.List.{List}
 use lib.ListN.{length, getD}
 use lib.Ieee.{Float, nan}
@@ -28,7 +27,7 @@ complexView = record {
 pub record Updated {E : Type 0} (v : View E) (place : ℕ → ℕ → ℕ) (P : ℕ → ℕ → Type 0) (f : ℕ → ℕ → E → E) (C D : List Float) : Type 0 where
   pub same-length : length D ≡ length C
   pub inside : (i j : ℕ) → P i j → v .get D (place i j) ≡ f i j (v .get C (place i j))
-  pub outside : (t : ℕ) → ((i j : ℕ) → P i j → place i j ≢ v .owner t) → getD D t nan ≡ getD C t nan
+  pub outside : (t : ℕ) → ((i j : ℕ) → P i j → place i j ≡ v .owner t → ⊥) → getD D t nan ≡ getD C t nan
 
 -- rows below m, columns below n
 abbrev pub Block : ℕ → ℕ → ℕ → ℕ → Type 0

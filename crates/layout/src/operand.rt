@@ -4,6 +4,7 @@ ghost use Rattle.layout.specs.Place.{indexOf, partOf};
 ghost use Rattle.layout.specs.Operands.{Reachable, transposed};
 
 // Where place (0,0) lies, and the row and column strides, in whole elements.
+#[repr(C)]
 pub struct Operand {
     pub base: usize,
     pub rs: isize,

@@ -6,6 +6,7 @@ pub mod NeighbourLaws
 pub mod Work
 pub mod PutLaws
 pub mod LoopLaws
+pub mod TurnLaws
 pub mod BufferLaws
 pub mod DepthLoop
 pub mod ColumnLoop

@@ -1,0 +1,206 @@
+-- `row_loop` meets its contract (LOOP 3): count is the number of row chunks, the rows of the first i of them are settled, C's length and
+-- the buffer from asize on are kept. Assumes nothing.
+use Prim.Native.Nat.{ℕ, min, _+_, _*_, _-_, _≤_, _<_}
+use mathlib.Core.Path.{_≡_, refl, ap, sym, _∙_}
+use native.Mathlib.Omega.{arith}
+use lib.ListN.{length, drop}
+use lib.Seq.{length-take-le}
+use denote.Ref.{now}
+use Rattle.element.specs.Element.{chunks}
+use Rattle.element.specs.Complex32.{arith as ar, view, asComplex, shape, fateOf}
+use Rattle.element.specs.Slice.{Updated, Block}
+use Rattle.element.specs.ViewLaws.{complex-lawful}
+use Rattle.layout.specs.Place.{indexOf}
+use Rattle.layout.specs.ChunkLaws.{chunk-start, chunk-some, chunk-inside}
+use Rattle.layout.specs.PartLaws.{reached, readable-part, readable-at, writable-part, writable-at}
+use Rattle.loops.specs.Panels.{complexPacking, elem, unpacked}
+use Rattle.loops.specs.PanelLaws.{complex-packing, rest-long}
+use Rattle.loops.specs.Work.{settled, KeptFrom}
+use Rattle.loops.specs.LoopLaws.{rows-start, rows-turn, rows-end, turn-least}
+use Rattle.loops.specs.BufferLaws.{kept-none, kept-then, kept-front, front-fits, chunk-rows}
+use borrow.Author.Needs.{needs}
+use Rattle.cgemm.proofs.outer.row_loop.Statement.{statement}
+use Rattle.cgemm.proofs.outer.row_loop.Tie as tie
+
+abbrev Inv-loop : tie.InvT-loop
+Inv-loop kc m n alpha a la fate c₀ lc pack₀ asize count i₀ c pack i =
+    (i ≤ count) × (count ≡ chunks (shape .mc) m) × (length c ≡ length c₀) × KeptFrom asize pack₀ pack
+    × Updated view (indexOf lc) (Block (min (i * shape .mc) m) n)
+    (settled ar (fateOf fate) (asComplex alpha) (elem view a la) (unpacked complexPacking (drop asize pack₀) (shape .nr) kc) kc) c₀ c
+
+abbrev μ-loop : tie.MeasureT-loop
+μ-loop kc m n alpha a la fate c₀ lc pack₀ asize count i₀ c pack i = count - i
+
+abbrev entry : tie.After-chunk-count Inv-loop μ-loop → tie.Start Inv-loop μ-loop
+entry c = c .before .before .before .before
+
+abbrev start : tie.In-loop Inv-loop μ-loop → tie.Start Inv-loop μ-loop
+start t = entry (t .before .before)
+
+turn : (t : tie.In-loop Inv-loop μ-loop) → t .before .loop .i < chunks (shape .mc) (start t .args .m)
+turn t = rw (t .before .loop .inv .1) at (t .loop-test .taken)
+
+-- the chunk begins in the matrix
+begins : (t : tie.In-loop Inv-loop μ-loop) → let a = start t .args in (t .before .loop .i * shape .mc < a .m) × (a .m ≤ 65536)
+begins t = let s = start t in (chunk-start (shape .mc) (s .args .m) (t .before .loop .i) (turn t), s .pre .0 .readable .modest .m-max)
+
+-- it is not empty, ends in the matrix, and is no longer than the longest
+span : (l : tie.After-chunk-len Inv-loop μ-loop) → let a = start (l .before) .args in let r = l .chunk-len .result in
+    (0 < r) × (l .before .before .loop .i * shape .mc + r ≤ a .m) × (r ≤ min (a .m) (shape .mc))
+span l = let m = start (l .before) .args .m in let i = l .before .before .loop .i in (
+  omega (arith, l .chunk-len .ensures, chunk-some (shape .mc) m i (omega arith) (turn (l .before))),
+  omega (arith, l .chunk-len .ensures, chunk-inside (shape .mc) m i (turn (l .before))),
+  omega (arith, l .chunk-len .ensures, turn-least (shape .mc) m i),
+)
+
+-- its panels fit in front
+fits : (l : tie.After-chunk-len Inv-loop μ-loop) → let a = start (l .before) .args in chunks (shape .mr) (l .chunk-len .result) * (a .kc * complexPacking .floats (shape .mr)) ≤ a .asize
+fits l = front-fits (start (l .before) .pre .1 .1) (omega arith) (l .chunk-len .result) (span l .2)
+
+-- the turn in which A was packed
+abbrev chunk : tie.After-pack Inv-loop μ-loop → tie.After-chunk-len Inv-loop μ-loop
+chunk k = k .before .before .before .before
+
+abbrev owner : tie.After-pack Inv-loop μ-loop → tie.Start Inv-loop μ-loop
+owner k = start (chunk k .before)
+
+-- what packing kept of the buffer, and its room
+kept : (k : tie.After-pack Inv-loop μ-loop) → KeptFrom (owner k .args .asize) (chunk k .before .before .loop .pack) (k .pack .last .0)
+kept k =
+    let t = chunk k .before in
+    kept-front complex-packing (shape .mr) (owner k .args .kc) (chunk k .chunk-len .result) (owner k .args .asize) _ (t .before .loop .pack) (k .pack .ensures) (fits (chunk k))
+    (omega (arith, start t .pre .1 .1 .rest, t .before .loop .inv .3 .same-length))
+
+room : (k : tie.After-pack Inv-loop μ-loop) → let a = owner k .args in a .asize + chunks (shape .nr) (a .n) * (a .kc * complexPacking .floats (shape .nr)) ≤ length (k .pack .last .0)
+room k = let t = chunk k .before in omega (arith, kept k .same-length, t .before .loop .inv .3 .same-length, start t .pre .1 .1 .rest)
+
+chunk-count-requires : tie.Need-chunk-count-requires Inv-loop μ-loop
+chunk-count-requires c κs = search needs
+
+loop-holds : tie.Need-loop-holds Inv-loop μ-loop
+loop-holds c = (omega arith, c .chunk-count .ensures, refl, kept-none _ _, rows-start view _ (shape .mc) _ _)
+
+chunk-len-requires : tie.Need-chunk-len-requires Inv-loop μ-loop
+chunk-len-requires c κs = turn c
+
+mul-part : tie.Need-mul-part Inv-loop μ-loop
+mul-part c = omega (arith, begins (c .before))
+
+part-requires : tie.Need-part-requires Inv-loop μ-loop
+part-requires c κs = let t = c .before in let s = start t in
+    reached (s .pre .1 .0) (t .before .loop .i * shape .mc) 0 (begins t .0) (s .pre .1 .0 .n-some)
+
+mul-part-2 : tie.Need-mul-part-2 Inv-loop μ-loop
+mul-part-2 c = omega (arith, begins (c .before .before))
+
+part-requires-2 : tie.Need-part-requires-2 Inv-loop μ-loop
+part-requires-2 c κs = let t = c .before .before in let s = start t in
+    reached (s .pre .0 .readable) (t .before .loop .i * shape .mc) 0 (begins t .0) (s .pre .0 .readable .n-some)
+
+pack-requires : tie.Need-pack-requires Inv-loop μ-loop
+pack-requires c κs =
+    let l = c .before .before .before in
+    let t = l .before in
+    let s = start t in (
+      readable-at (c .before .before .part .ensures)
+          (readable-part (s .pre .1 .0) (t .before .loop .i * shape .mc) 0 (l .chunk-len .result) (s .args .kc) (span l .1) (omega arith) (span l .0) (s .pre .1 .0 .n-some)),
+      (omega (arith, fits l, s .pre .1 .1 .rest, t .before .loop .inv .3 .same-length), omega arith, omega arith),
+    )
+
+slice-aggregate-gemm-packed : tie.Need-slice-aggregate-gemm-packed Inv-loop μ-loop
+slice-aggregate-gemm-packed c =
+    let k = c .before .before .before .before in
+    sym (length-take-le (owner k .args .asize) (k .pack .last .0) (omega (arith, room k)))
+
+mul-gemm-packed : tie.Need-mul-gemm-packed Inv-loop μ-loop
+mul-gemm-packed c =
+    let k = c .before .before .before .before in
+    omega (arith, room k, kept k .same-length, chunk k .before .before .loop .inv .3 .same-length, owner k .good)
+
+sub-gemm-packed : tie.Need-sub-gemm-packed Inv-loop μ-loop
+sub-gemm-packed c = omega (arith, room (c .before .before .before .before))
+
+part-gemm-packed-start : tie.Need-part-gemm-packed-start Inv-loop μ-loop
+part-gemm-packed-start c = omega (arith, room (c .before .before .before .before))
+
+part-gemm-packed-end : tie.Need-part-gemm-packed-end Inv-loop μ-loop
+part-gemm-packed-end c = omega (arith, room (c .before .before .before .before))
+
+gemm-packed-requires : tie.Need-gemm-packed-requires Inv-loop μ-loop
+gemm-packed-requires c κs =
+    let k = c .before .before .before .before .before .before in
+    let l = chunk k in
+    let t = l .before in
+    let s = start t in
+    let a = s .args in (
+      writable-at (k .before .before .part2 .ensures) (ap (λ (z : ℕ). view .count z) (t .before .loop .inv .2))
+          (writable-part (s .pre .0) (t .before .loop .i * shape .mc) 0 (l .chunk-len .result) (a .n) (span l .1) (omega arith) (span l .0) (s .pre .0 .readable .n-some)),
+      (
+        omega (arith, fits l, length-take-le (a .asize) (k .pack .last .0) (omega (arith, room k))),
+        rest-long (k .pack .last .0) (a .asize) (chunks (shape .nr) (a .n) * (a .kc * complexPacking .floats (shape .nr))) (room k),
+      ),
+    )
+
+add-i : tie.Need-add-i Inv-loop μ-loop
+add-i c = search needs
+
+loop-less : tie.Need-loop-less Inv-loop μ-loop
+loop-less c = search needs
+
+loop-again : tie.Need-loop-again Inv-loop μ-loop
+loop-again c =
+    let k = c .before .before .before .before .before .before .before .before .before in
+    let l = chunk k in
+    let t = l .before in
+    let s = start t in
+    let a = s .args in
+    let lp = t .before .loop in (
+      omega (arith, t .loop-test .taken),
+      lp .inv .1,
+      search needs,
+      kept-then (lp .inv .3) (kept k),
+      rows-turn complex-lawful (s .pre .0) (shape .mc) (lp .i) (turn t) (l .chunk-len .ensures) (k .before .before .part2 .ensures)
+          (λ i j hi hj x. chunk-rows ar view complex-packing (shape .mr) (shape .nr) (omega arith) (fateOf (a .fate)) (asComplex (a .alpha)) (a .kc) (now (a .a)) (now (a .pack)) (a .asize) (lp .i * shape .mc)
+          (l .chunk-len .result) (s .pre .1 .0) (begins t .0) (k .before .before .before .part .ensures) (lp .inv .3) (kept k) (k .pack .ensures) (fits l) i j hi x)
+          (lp .inv .4)
+          (c .before .before .gemm-packed .ensures),
+    )
+
+same-length : tie.Need-same-length Inv-loop μ-loop
+same-length c = search needs
+
+same-length-2 : tie.Need-same-length-2 Inv-loop μ-loop
+same-length-2 c = c .before .loop .inv .3 .same-length
+
+returns : tie.Need-returns Inv-loop μ-loop
+returns c =
+    let l = c .before .loop in
+    let a = entry (c .before .before) .args in
+    (rows-end view _ (shape .mc) (a .m) (a .n) (l .i) (omega arith) (omega (arith, l .inv .1, c .loop-test .left)) (l .inv .4), l .inv .3)
+
+pub row-loop-spec : {M : Type 1} → statement M
+row-loop-spec =
+    tie.close
+    (tie.spec
+    Inv-loop
+    μ-loop
+    chunk-count-requires
+    loop-holds
+    chunk-len-requires
+    mul-part
+    part-requires
+    mul-part-2
+    part-requires-2
+    pack-requires
+    slice-aggregate-gemm-packed
+    mul-gemm-packed
+    sub-gemm-packed
+    part-gemm-packed-start
+    part-gemm-packed-end
+    gemm-packed-requires
+    add-i
+    loop-less
+    loop-again
+    same-length
+    same-length-2
+    returns)

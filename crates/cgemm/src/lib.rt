@@ -1,0 +1,5 @@
+// cgemm: C becomes alpha A B + beta C, in complex f32.
+pub mod gemm;
+mod outer;
+mod packed;
+mod scale;

@@ -1,0 +1,6 @@
+// Derived from crates/sgemm/src/lib.rt by tools/derive: edit that.
+// dgemm: C becomes alpha A B + beta C, in f64.
+pub mod gemm;
+mod outer;
+mod packed;
+mod scale;

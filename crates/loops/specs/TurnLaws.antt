@@ -1,0 +1,43 @@
+-- Turn i of a counted loop over a matrix: its rows from row i * W on, or its columns, as an operand that may be read or written. Assumes nothing.
+use mathlib.Core.Path.{_≡_}
+use Prim.Native.Nat.{ℕ, min, _+_, _*_, _<_, _≤_}
+use native.Mathlib.Omega.{arith}
+use Rattle.element.specs.Element.{chunks, chunkLength}
+use Rattle.layout.specs.declared.operand.Operand.{Operand}
+use Rattle.layout.specs.Place.{partOf}
+use Rattle.layout.specs.Operands.{Reachable, Readable, Writable}
+use Rattle.layout.specs.ChunkLaws.{chunk-start, chunk-some, chunk-inside, chunk-width}
+use Rattle.layout.specs.PartLaws.{reached, readable-part, readable-at, writable-part, writable-at}
+use Rattle.loops.specs.LoopLaws.{turn-least}
+
+-- the turn's part is no longer than the whole, nor than W
+pub turn-most : (W m i : ℕ) {r : ℕ} → r ≡ chunkLength W m i → r ≤ min m W
+turn-most W m i e = omega (arith, e, turn-least W m i)
+
+-- it is not empty and ends in the whole
+module _ (W m i : ℕ) {r : ℕ} (l : i < chunks W m) (e : r ≡ chunkLength W m i) where
+  turn-some : 0 < r
+  turn-some = omega (arith, e, chunk-some W m i (chunk-width W m i l) l)
+
+  turn-inside : i * W + r ≤ m
+  turn-inside = omega (arith, e, chunk-inside W m i l)
+
+module _ {m n : ℕ} {o : Operand} {len : ℕ} (f : Readable m n o len) (W i : ℕ) where
+  pub rows-reached : i < chunks W m → Reachable o (i * W) 0
+  rows-reached l = reached f (i * W) 0 (chunk-start W m i l) (f .n-some)
+
+  pub columns-reached : i < chunks W n → Reachable o 0 (i * W)
+  columns-reached l = reached f 0 (i * W) (f .m-some) (chunk-start W n i l)
+
+  pub rows-read : {r : ℕ} {o′ : Operand} → i < chunks W m → r ≡ chunkLength W m i → o′ ≡ partOf o (i * W) 0 → Readable r n o′ len
+  rows-read {r} l e at = readable-at at (readable-part f (i * W) 0 r n (turn-inside W m i l e) (omega arith) (turn-some W m i l e) (f .n-some))
+
+  pub columns-read : {r : ℕ} {o′ : Operand} → i < chunks W n → r ≡ chunkLength W n i → o′ ≡ partOf o 0 (i * W) → Readable m r o′ len
+  columns-read {r} l e at = readable-at at (readable-part f 0 (i * W) m r (omega arith) (turn-inside W n i l e) (f .m-some) (turn-some W n i l e))
+
+module _ {m n : ℕ} {o : Operand} {len len′ : ℕ} (f : Writable m n o len) (W i : ℕ) {r : ℕ} {o′ : Operand} where
+  pub rows-written : i < chunks W m → r ≡ chunkLength W m i → o′ ≡ partOf o (i * W) 0 → len′ ≡ len → Writable r n o′ len′
+  rows-written l e at same = writable-at at same (writable-part f (i * W) 0 r n (turn-inside W m i l e) (omega arith) (turn-some W m i l e) (f .readable .n-some))
+
+  pub columns-written : i < chunks W n → r ≡ chunkLength W n i → o′ ≡ partOf o 0 (i * W) → len′ ≡ len → Writable m r o′ len′
+  columns-written l e at same = writable-at at same (writable-part f 0 (i * W) m r (omega arith) (turn-inside W n i l e) (f .readable .m-some) (turn-some W n i l e))
