@@ -1,6 +1,6 @@
 -- A call that is done, as what it leaves of its three matrices. Assumes nothing.
 use mathlib.Core.Logic.{inl, inr}
-use Prim.Native.Nat.{ℕ, _^_, _<_}
+use Prim.Native.Nat.{_^_, _<_}
 use Rattle.element.specs.declared.kind.Kind.{Kind}
 use Rattle.element.specs.Kinds.{viewOf}
 use Rattle.layout.specs.Operands.{Modest, Readable, Writable}

@@ -5,7 +5,6 @@ use mathlib.Core.List.{List}
 use lib.Ieee.{Float}
 use Rattle.element.specs.Element.{element}
 use Rattle.element.specs.Agree.{element-agree}
-use Rattle.element.specs.Slice.{Block}
 use Rattle.element.specs.declared.kind.Kind.{Kind}
 use Rattle.element.specs.Kinds.{arithOf, viewOf, shapeOf}
 use Rattle.layout.specs.Place.{indexOf}

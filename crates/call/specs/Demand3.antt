@@ -13,7 +13,7 @@ use Rattle.element.specs.declared.kind.Kind.{Kind}
 use Rattle.element.specs.Kinds.{shapeOf}
 use Rattle.call.specs.declared.answer.Answer.{Answer}
 use Rattle.call.specs.declared.judge.Lengths.{Lengths}
-use Rattle.call.specs.Demands.{numberOf, Verdict, Call, matrices, lengths, Does, Outcome, Piece, pieceCall, gridPiece, Runs, Ends}
+use Rattle.call.specs.Demands.{numberOf, Verdict, Call, matrices, lengths, Outcome, Piece, pieceCall, gridPiece, Runs, Ends}
 use Rattle.call.specs.RefusalLaws.{verdict-same}
 use Rattle.call.specs.PieceLaws.{Over, Fits, piece-accepted, pieces-do, does-same, does-long}
 

@@ -1,22 +1,20 @@
 -- Pieces of an accepted call: each is accepted, and together they do the call's work. Assumes nothing.
-use Prim.Native.Nat.{ℕ, zero, suc, _+_, _*_, _≤_, _<_}
-use mathlib.Core.Path.{_≡_, sym, _∙_, transport}
-use mathlib.Core.Logic.{_⊎_, inl, inr}
+use Prim.Native.Nat.{ℕ, suc, _+_, _*_, _≤_, _<_}
+use mathlib.Core.Path.{_≡_, transport}
 use mathlib.Core.List.{List}
 use native.Mathlib.Omega.{arith}
 use lib.ListN.{length}
 use lib.Ieee.{Float}
 use Rattle.element.specs.Element.{multiplier, element}
 use Rattle.element.specs.Slice.{Updated, Block}
-use Rattle.element.specs.SliceLaws.{Region, region?, Apart, moved, unique, placed?}
+use Rattle.element.specs.SliceLaws.{Region, region?, moved, unique, placed?}
 use Rattle.element.specs.ViewLaws.{lawful}
 use Rattle.element.specs.Pieces.{Proper, Cuts}
 use Rattle.element.specs.CuttingTheorem.{pieceRule, wholeRule, cut}
 use Rattle.element.specs.declared.kind.Kind.{Kind}
 use Rattle.element.specs.Kinds.{arithOf, viewOf, shapeOf}
-use Rattle.layout.specs.Place.{indexOf, partOf, SomeOutside, TwoMeet}
+use Rattle.layout.specs.Place.{indexOf, partOf}
 use Rattle.layout.specs.Operands.{AllInside, NoneMeet}
-use Rattle.layout.specs.Need.{needOf, Large}
 use Rattle.layout.specs.NeedLaws.{need-mono, kind-sides}
 use Rattle.layout.specs.Tests.{all-inside, none-meet, outside-or-inside, meet-or-apart, not-large, none-large}
 use Rattle.layout.specs.PartLaws.{part-inside, part-apart, inside-index, inside-apart}

@@ -6,7 +6,7 @@ use native.Mathlib.Decide.{decLt}
 use native.Mathlib.Omega.{arith}
 use Rattle.element.specs.declared.kind.Kind.{Kind}
 use Rattle.element.specs.Kinds.{shapeOf, viewOf}
-use Rattle.layout.specs.Place.{SomeOutside, TwoMeet, LongStride}
+use Rattle.layout.specs.Place.{SomeOutside, TwoMeet}
 use Rattle.layout.specs.Need.{needOf, Large}
 use Rattle.call.specs.declared.judge.Matrices.{Matrices}
 use Rattle.call.specs.declared.judge.Lengths.{Lengths}

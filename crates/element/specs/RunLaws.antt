@@ -8,7 +8,7 @@ use native.Mathlib.Numerals.{add-one}
 use native.Mathlib.Omega.{arith}
 use borrow.Rule.Slice.PartMut.{midOf, putMid}
 use lib.ListN.{drop-of-length-le, length, take, drop, getD, set, take-append-drop, length-append, length-drop, List·getD-append}
-use lib.Seq.{take-all, set-split, take-at, drop-at, drop-drop, length-take-le, getD-append-add, getD-take, getD-drop}
+use lib.Seq.{take-all, set-split, take-at, drop-at, drop-drop, length-take-le, getD-append-add, getD-drop}
 use Rattle.element.specs.Runs.{cat, splice}
 
 module _ {A : Type 0} where
@@ -65,11 +65,6 @@ module _ {A : Type 0} where
   unfolding cat
   run-none g d at = sym (splice-none d at)
 
-  -- its length, while the loop runs
-  pub run-length : (g : ℕ → List A) (w : ℕ) → ((q : ℕ) → length (g q) ≡ w) → (d : List A) (at q : ℕ) {e : List A} → at + q * w ≤ length d
-      → e ≡ splice d at (cat q g) → length e ≡ length d
-  run-length g w h d at q fits u = ap length u ∙ length-splice d at (cat q g) (omega (arith, length-cat g w h q))
-
   -- reading
   pub getD-in : (d : List A) (at : ℕ) (new : List A) (k : ℕ) (z : A) → at ≤ length d → k < length new → getD (splice d at new) (at + k) z ≡ getD new k z
   unfolding splice
@@ -77,11 +72,6 @@ module _ {A : Type 0} where
       let n : length (take at d) ≡ at = length-take-le at d h in
       ap (λ (j : ℕ). getD (take at d ++ (new ++ drop (at + length new) d)) (j + k) z) (sym n)
       ∙ getD-append-add (take at d) _ k z ∙ List·getD-append new _ z k l
-
-  pub getD-before : (d : List A) (at : ℕ) (new : List A) (k : ℕ) (z : A) → at ≤ length d → k < at → getD (splice d at new) k z ≡ getD d k z
-  unfolding splice
-  getD-before d at new k z h l =
-      List·getD-append (take at d) _ z k (omega (arith, length-take-le at d h)) ∙ getD-take at d k z l
 
   pub getD-after : (d : List A) (at : ℕ) (new : List A) (k : ℕ) (z : A) → at ≤ length d → at + length new ≤ k → getD (splice d at new) k z ≡ getD d k z
   unfolding splice
@@ -114,8 +104,3 @@ module _ {A : Type 0} where
       let all : take (length d - a) (drop a d) ≡ drop a d = take-all (length d - a) (drop a d) (omega (arith, length-drop a d)) in
       let none : drop (length d - a) (drop a d) ≡ [] = drop-of-length-le (drop a d) {i = length d - a} (omega (arith, length-drop a d)) in
       rw (none, u, all, zero-add (length new), drop-drop (length new) a d, append-assoc new (drop (a + length new) d) []) (ap (λ (l : List A). take a d ++ (new ++ l)) (append-nil (drop (a + length new) d)))
-
-  -- the same, where what was there before is known
-  pub lent-after : (a : ℕ) (new : List A) {d d′ e : List A} → a ≤ length d → d ≡ d′ → e ≡ splice (midOf a (length d - a) d) 0 new
-      → putMid a (length d - a) d e ≡ splice d′ a new
-  lent-after a new {d} {d′} h v u = lent-from d a new h u ∙ ap (λ (l : List A). splice l a new) v

@@ -5,7 +5,7 @@ use mathlib.Core.Logic.{_⊎_, inl, inr, ite, if-pos, if-neg, Dec·and}
 use mathlib.Core.List.{List}
 use native.Mathlib.Decide.{decLt, decLe, ℕ-discrete, map-dec}
 use native.Mathlib.Omega.{arith}
-use lib.ListN.{length, getD}
+use lib.ListN.{getD}
 use lib.Seq.{ext-getD}
 use lib.Ieee.{Float, nan}
 use Rattle.element.specs.Slice.{View, Updated, Block}
@@ -66,15 +66,6 @@ module _ {E : Type 0} (v : View E) (place : ℕ → ℕ → ℕ) where
     same-length = u .same-length;
     inside = λ i j p. u .inside i j p ∙ h i j p _;
     outside = u .outside;
-  }
-
-  -- the places said otherwise
-  pub restated : {P Q : ℕ → ℕ → Type 0} {f : ℕ → ℕ → E → E} {C D : List Float}
-      → ((i j : ℕ) → P i j → Q i j) → ((i j : ℕ) → Q i j → P i j) → Updated v place P f C D → Updated v place Q f C D
-  restated to back u = record {
-    same-length = u .same-length;
-    inside = λ i j q. u .inside i j (back i j q);
-    outside = λ t h. u .outside t (λ i j p. h i j (to i j p));
   }
 
   -- nothing done yet

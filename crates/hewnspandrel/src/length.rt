@@ -1,5 +1,4 @@
 // The answer to the question for the need, as C takes it.
-ghost use Rattle.layout.specs.Need.{PackLengthIs};
 ghost use Rattle.hewnspandrel.specs.Answers.{Asked};
 use element::kind::Kind;
 use layout::need::PackLength;

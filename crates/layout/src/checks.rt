@@ -1,6 +1,5 @@
 // The tests of one operand's layout, each exact: a place outside the slice, two places that meet, a stride that is too large. The crate has
 // only debug assertions here.
-ghost use mathlib.Core.Path.{_≡_};
 ghost use Prim.Native.Nat.{_<_};
 ghost use Rattle.layout.specs.Place.{SomeOutside, TwoMeet, LongStride};
 ghost use Rattle.layout.specs.Operands.{Tells, Modest};

@@ -54,11 +54,6 @@ module _ (ar : Arith) (pk : Packing (ar .E)) (fate : Fate (ar .E)) (alpha : ar .
 pub turns-all : (W m i : ℕ) → 0 < W → chunks W m ≤ i → min (i * W) m ≡ m
 turns-all W m i h l = omega (arith, panels-all W m h, mul-le-mul-right {m = chunks W m} {n = i} W l)
 
--- a turn's part is no longer than the whole, nor than W
-pub turn-least : (W m i : ℕ) → chunkLength W m i ≤ min m W
-unfolding chunkLength
-turn-least W m i = omega arith
-
 module _ {E : Type 0} (v : View E) (place : ℕ → ℕ → ℕ) (W m n : ℕ) where
   pub rows-start : {f : ℕ → ℕ → E → E} {C : List Float} → Updated v place (Block (min (0 * W) m) n) f C C
   rows-start = untouched v place (λ i j p. omega (arith, zero-mul W))

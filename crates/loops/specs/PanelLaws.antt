@@ -1,17 +1,17 @@
 -- Laws of packed panels: stores one after the other, how many panels, and reading a row back from a panel. Assumes nothing.
 use mathlib.Core.Path.{_≡_, refl, sym, ap, _∙_}
-use mathlib.Core.List.{List, [], _∷_, _++_}
+use mathlib.Core.List.{List, [], _∷_}
 use Prim.Native.Nat.{ℕ, zero, suc, _+_, _-_, _*_, _/_, _%_, _<_, _≤_}
-use native.Mathlib.Nat.{le-div-iff-mul-le, le-trans, div-mul-le-self, div-add-mod', div-lt-iff-lt-mul, mod-lt, mul-one, suc-mul, mul-le-mul-right, mul-add-div-right, mul-add-mod-self-right, div-eq-of-lt, mod-eq-of-lt, add-zero, zero-add, lt-of-mul-lt-mul-right}
+use native.Mathlib.Nat.{le-div-iff-mul-le, le-trans, div-mul-le-self, div-add-mod', div-lt-iff-lt-mul, mod-lt, mul-one, suc-mul, mul-le-mul-right, mul-add-div-right, mul-add-mod-self-right, div-eq-of-lt, mod-eq-of-lt, add-zero, zero-add}
 use native.Mathlib.Omega.{arith}
 use borrow.Author.Tests.{lt-ltb}
 use lib.ListN.{length, getD, take, drop, set, length-append, length-drop, List·getD-append}
-use lib.Seq.{getD-take, getD-drop, getD-append-add, take-all}
+use lib.Seq.{getD-drop, getD-append-add, take-all}
 use lib.Ieee.{Float, Format, nan}
 use Rattle.element.specs.Element.{Arith, Complex, chunks, complex, +0}
 use Rattle.element.specs.Slice.{complexView}
 use Rattle.element.specs.Runs.{cat, splice}
-use Rattle.element.specs.RunLaws.{length-cat, length-splice, getD-cat, getD-in, run-none, run-more, set-splice, splice-splice, cat-ext}
+use Rattle.element.specs.RunLaws.{length-cat, length-splice, getD-cat, run-none, run-more, set-splice, splice-splice, cat-ext}
 use Rattle.loops.specs.Panels.{Packing, half, singles, realPacking, complexPacking, padded, packedPanel, packed, unpacked}
 
 -- the next w fit where all of n times w do
@@ -31,10 +31,6 @@ panels-mono w {a} {b} h l = le-div-iff-mul-le h .1 (le-trans (div-mul-le-self (a
 pub panels-all : (w m : ℕ) → 0 < w → m ≤ chunks w m * w
 unfolding chunks
 panels-all w m h = omega (arith, div-add-mod' (m + (w - 1)) w, mod-lt (m + (w - 1)) h)
-
--- panel q is one of them where a row of it is
-pub panel-room : (w m q s : ℕ) → 0 < w → q * w < m → q * s + s ≤ chunks w m * s
-panel-room w m q s h l = next-fits s (lt-of-mul-lt-mul-right w (omega (arith, panels-all w m h)))
 
 -- ---- w floats, one after the other
 
@@ -132,10 +128,6 @@ module _ {E : Type 0} {pk : Packing E} (ok : LawfulPacking pk) where
   unfolding packedPanel
   panel-more w x first d at p l u v = run-more (λ p. pk .row w (λ i. x (first + i) p)) (pk .floats w) (λ p. ok .row-length w _) d at p l u v
 
-  pub panel-long : (w : ℕ) (x : ℕ → ℕ → E) (first : ℕ) (d : List Float) (at p : ℕ) {e : List Float} → at + p * pk .floats w ≤ length d
-      → e ≡ splice d at (packedPanel pk w p x first) → length e ≡ length d
-  panel-long w x first d at p {e} l u = ap length u ∙ length-splice d at (packedPanel pk w p x first) (omega (arith, length-panel w p x first))
-
   pub length-packed : (w kc n : ℕ) (x : ℕ → ℕ → E) → length (packed pk w kc n x) ≡ n * (kc * pk .floats w)
   unfolding packed
   length-packed w kc n x = length-cat (λ ir. packedPanel pk w kc x (ir * w)) (kc * pk .floats w) (λ ir. length-panel w kc x (ir * w)) n
@@ -150,10 +142,6 @@ module _ {E : Type 0} {pk : Packing E} (ok : LawfulPacking pk) where
   unfolding packed
   packed-more w kc x d q {e} l u v =
       run-more (λ ir. packedPanel pk w kc x (ir * w)) (kc * pk .floats w) (λ ir. length-panel w kc x (ir * w)) d 0 q (omega arith) u (rw zero-add v)
-
-  pub packed-long : (w kc : ℕ) (x : ℕ → ℕ → E) (d : List Float) (q : ℕ) {e : List Float} → q * (kc * pk .floats w) ≤ length d
-      → e ≡ splice d 0 (packed pk w kc q x) → length e ≡ length d
-  packed-long w kc x d q {e} l u = ap length u ∙ length-splice d 0 (packed pk w kc q x) (omega (arith, length-packed w kc q x))
 
   -- float r of depth step p of panel ir
   float-at : (w kc n : ℕ) (x : ℕ → ℕ → E) (ir p r : ℕ) → r < pk .floats w → p < kc → ir < n

@@ -1,7 +1,7 @@
 -- Laws of tables, tiles and arrays filled in order, for every kind and every tile size. Assumes nothing.
 use Prim.Native.Nat.{ℕ, zero, suc, _+_, _<_, _≤_}
 use mathlib.Core.Path.{_≡_, refl, sym, ap, _∙_}
-use mathlib.Core.List.{List, [], _∷_}
+use mathlib.Core.List.{List, []}
 use native.Mathlib.Nat.{not-suc-le-zero, le-of-suc-le-suc, zero-add}
 use native.Mathlib.Omega.{arith}
 use native.Mathlib.Numerals.{add-one}
@@ -16,6 +16,10 @@ pub getD-tab : {A : Type 0} (n : ℕ) (g : ℕ → A) (i : ℕ) (z : A) → i < 
 getD-tab zero g i z l = absurd (not-suc-le-zero l)
 getD-tab (suc n) g zero z l = refl
 getD-tab (suc n) g (suc i) z l = getD-tab n (λ k. g (suc k)) i z (le-of-suc-le-suc l)
+
+-- the same, of a list that is known to be a table
+pub tab-read : {A : Type 0} (n : ℕ) (g : ℕ → A) (z : A) {l : List A} → l ≡ tab n g → (i : ℕ) → i < n → getD l i z ≡ g i
+tab-read {A} n g z e i h = ap (λ (s : List A). getD s i z) e ∙ getD-tab n g i z h
 
 pub length-tab : {A : Type 0} (n : ℕ) (g : ℕ → A) → length (tab n g) ≡ n
 length-tab zero g = refl

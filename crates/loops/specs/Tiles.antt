@@ -22,6 +22,13 @@ cell z t i j = getD (getD t i []) j z
 unfoldable pub stepped : {X : Type 0} (ar : Arith) → Held ar X → ℕ → ℕ → List (List X) → (ℕ → ar .E) → (ℕ → ar .E) → List (List X)
 stepped ar v h w t x y = grid h w (λ i j. v .of (ar .step (v .to (cell (v .blank) t i j)) (x i) (y j)))
 
+-- a row of it; and a row times alpha
+abbrev pub rowStepped : {X : Type 0} (ar : Arith) → Held ar X → ℕ → List X → ar .E → (ℕ → ar .E) → List X
+rowStepped ar v w t x y = tab w (λ j. v .of (ar .step (v .to (getD t j (v .blank))) x (y j)))
+
+abbrev pub rowTimes : {X : Type 0} (ar : Arith) → Held ar X → ℕ → ar .E → List X → List X
+rowTimes ar v w alpha t = tab w (λ j. v .of (ar .mul alpha (v .to (getD t j (v .blank)))))
+
 -- the tile after n depth steps: a and b by lane and depth
 unfoldable pub tileTo : {X : Type 0} (ar : Arith) → Held ar X → ℕ → ℕ → (ℕ → ℕ → ar .E) → (ℕ → ℕ → ar .E) → ℕ → List (List X)
 unfolding chunkSum

@@ -8,11 +8,11 @@ use Rattle.layout.specs.Place.{partOf}
 use Rattle.layout.specs.Operands.{Reachable, Readable, Writable}
 use Rattle.layout.specs.ChunkLaws.{chunk-start, chunk-some, chunk-inside, chunk-width}
 use Rattle.layout.specs.PartLaws.{reached, readable-part, readable-at, writable-part, writable-at}
-use Rattle.loops.specs.LoopLaws.{turn-least}
 
 -- the turn's part is no longer than the whole, nor than W
 pub turn-most : (W m i : ℕ) {r : ℕ} → r ≡ chunkLength W m i → r ≤ min m W
-turn-most W m i e = omega (arith, e, turn-least W m i)
+unfolding chunkLength
+turn-most W m i e = omega (arith, e)
 
 -- it is not empty and ends in the whole
 module _ (W m i : ℕ) {r : ℕ} (l : i < chunks W m) (e : r ≡ chunkLength W m i) where

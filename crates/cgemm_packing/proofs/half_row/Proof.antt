@@ -1,10 +1,9 @@
--- `half_row` meets its contract: after i turns pack holds the first i floats from `at` on, and is as long as it was. Assumes nothing.
+-- `half_row` meets its contract: the first i of its halves by places are spliced in, the length is kept. Assumes nothing.
 use Prim.Native.Nat.{_+_, _-_, _≤_}
 use mathlib.Core.Path.{_≡_, refl, _∙_}
 use native.Mathlib.Omega.{arith}
 use lib.ListN.{length, length-set}
-use denote.Ref.{now}
-use Rattle.element.specs.Complex32.{arith as kind, view}
+use Rattle.element.specs.Complex32.{arith as ar, view}
 use Rattle.element.specs.Runs.{splice}
 use Rattle.loops.specs.Panels.{half, singles, elem, padded}
 use Rattle.loops.specs.PanelLaws.{singles-none, singles-more}
@@ -13,8 +12,7 @@ use Rattle.cgemm_packing.proofs.half_row.Statement.{statement}
 use Rattle.cgemm_packing.proofs.half_row.Tie as tie
 
 abbrev Inv-loop : tie.InvT-loop
-Inv-loop pack₀ at w a la m kc first p part i₀ pack i =
-    (i ≤ w) × (length pack ≡ length pack₀) × (pack ≡ splice pack₀ at (singles i (λ i. half (padded kind m (elem view a la) (first + i) p) part)))
+Inv-loop pack₀ at w a la m kc first p part i₀ pack i = (i ≤ w) × (length pack ≡ length pack₀) × (pack ≡ splice pack₀ at (singles i (λ i. half (padded ar m (elem view a la) (first + i) p) part)))
 
 abbrev μ-loop : tie.MeasureT-loop
 μ-loop pack₀ at w a la m kc first p part i₀ pack i = w - i
@@ -26,7 +24,7 @@ add-half-at : tie.Need-add-half-at Inv-loop μ-loop
 add-half-at c = search needs
 
 half-at-requires : tie.Need-half-at-requires Inv-loop μ-loop
-half-at-requires c κs = let s = c .before .before .before .before in (s .pre .0, (omega arith, omega arith))
+half-at-requires c κs = search needs
 
 add-pack : tie.Need-add-pack Inv-loop μ-loop
 add-pack c = search needs
@@ -44,19 +42,15 @@ loop-less : tie.Need-loop-less Inv-loop μ-loop
 loop-less c = search needs
 
 loop-again : tie.Need-loop-again Inv-loop μ-loop
-loop-again c =
-    let k = c .before .before .loop in
-    let s = c .before .before .before .before .before in (
-      omega arith,
-      length-set (k .pack) _ _ ∙ k .inv .1,
-      singles-more _ (now (s .args .pack)) (s .args .at) (k .i) (omega arith) (k .inv .2) (c .half-at .ensures),
-    )
+loop-again c = let k = c .before .before .loop in (omega arith, length-set (k .pack) _ _ ∙ k .inv .1, singles-more _ _ _ (k .i) (omega arith) (k .inv .2) (c .half-at .ensures))
 
 same-length : tie.Need-same-length Inv-loop μ-loop
 same-length c = search needs
 
 returns : tie.Need-returns Inv-loop μ-loop
-returns c = let e : c .before .loop .i ≡ c .before .before .before .before .args .w = omega arith in rw e at (c .before .loop .inv .2)
+returns c =
+    let e : c .before .loop .i ≡ c .before .before .before .before .args .w = omega arith in
+    rw e at (c .before .loop .inv .2)
 
 pub half-row-spec : {M : Type 1} → statement M
 half-row-spec =

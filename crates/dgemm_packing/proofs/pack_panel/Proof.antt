@@ -1,6 +1,6 @@
 -- Derived from crates/sgemm_packing/proofs/pack_panel/Proof.antt by tools/derive: edit that.
 -- `pack_panel` meets its contract: the first p depth steps are spliced in, the length is kept. Assumes nothing.
-use Prim.Native.Nat.{_-_, _≤_}
+use Prim.Native.Nat.{_+_, _*_, _-_, _≤_}
 use mathlib.Core.Path.{_≡_, refl}
 use native.Mathlib.Omega.{arith}
 use lib.ListN.{length}
@@ -18,19 +18,24 @@ Inv-loop pack₀ at w kc a la m first p₀ pack p = (p ≤ kc) × (length pack �
 abbrev μ-loop : tie.MeasureT-loop
 μ-loop pack₀ at w kc a la m first p₀ pack p = kc - p
 
+-- this turn's depth step has room
+room : (t : tie.In-loop Inv-loop μ-loop) → let a = t .before .before .before .before .args in
+    t .before .loop .p * realPacking .floats (a .w) + realPacking .floats (a .w) ≤ a .kc * realPacking .floats (a .w)
+room t = next-fits (realPacking .floats (t .before .before .before .before .args .w)) (t .loop-test .taken)
+
 loop-holds : tie.Need-loop-holds Inv-loop μ-loop
 loop-holds c = (omega arith, refl, panel-none real-packing _ _ _ _ _)
 
 mul-pack-row : tie.Need-mul-pack-row Inv-loop μ-loop
-mul-pack-row c = omega (arith, next-fits (c .before .before .before .before .before .args .w) (c .before .loop-test .taken))
+mul-pack-row c = omega (arith, room (c .before))
 
 add-pack-row : tie.Need-add-pack-row Inv-loop μ-loop
-add-pack-row c = omega (arith, next-fits (c .before .before .before .before .before .args .w) (c .before .loop-test .taken))
+add-pack-row c = omega (arith, room (c .before))
 
 pack-row-requires : tie.Need-pack-row-requires Inv-loop μ-loop
 pack-row-requires c κs =
     let s = c .before .before .before .before .before in
-    (s .pre .0, (omega (arith, next-fits (s .args .w) (c .before .loop-test .taken)), s .pre .1 .1, c .before .loop-test .taken, s .pre .1 .2))
+    (s .pre .0, (omega (arith, room (c .before)), s .pre .1 .1, c .before .loop-test .taken, s .pre .1 .2))
 
 add-p : tie.Need-add-p Inv-loop μ-loop
 add-p c = search needs
@@ -42,7 +47,7 @@ loop-again : tie.Need-loop-again Inv-loop μ-loop
 loop-again c =
     let t = c .before .before .before .before in
     let k = t .before .loop in
-    (omega arith, search needs, panel-more real-packing _ _ _ _ _ (k .p) (omega (arith, next-fits (t .before .before .before .before .args .w) (t .loop-test .taken))) (k .inv .2) (c .before .before .pack-row .ensures))
+    (omega arith, search needs, panel-more real-packing _ _ _ _ _ (k .p) (omega (arith, room t)) (k .inv .2) (c .before .before .pack-row .ensures))
 
 same-length : tie.Need-same-length Inv-loop μ-loop
 same-length c = search needs

@@ -1,4 +1,4 @@
--- `element_at` meets its contract: below row m the element at an index inside a, else +0. Assumes nothing.
+-- `element_at` meets its contract: below row m the element at a place in the slice, else +0. Assumes nothing.
 use Prim.Native.Nat.{ℕ, _<_}
 use mathlib.Core.Path.{ap}
 use native.Mathlib.Omega.{arith}
@@ -6,13 +6,14 @@ use borrow.Author.Tests.{lt-ltb, le-ltb}
 use lib.ListN.{length, getD}
 use lib.Ieee.{nan, ofBits}
 use denote.Ref.{now}
+use Rattle.element.specs.Real32.{view}
 use Rattle.layout.specs.Place.{indexOf}
 use Rattle.layout.specs.PartLaws.{index-lt, reached}
 use Rattle.sgemm_packing.proofs.element_at.Statement.{statement}
 use Rattle.sgemm_packing.proofs.element_at.Tie as tie
 
--- the index is inside a
-here : (t : tie.Then1) → let a = t .before .before .args in indexOf (a .la) (a .i) (a .p) < length (now (a .a))
+-- the place is in the slice
+here : (t : tie.Then1) → let a = t .before .before .args in indexOf (a .la) (a .i) (a .p) < view .count (length (now (a .a)))
 here t = let s = t .before .before in index-lt (s .pre .0) (s .args .i) (s .args .p) (t .if1 .taken) (s .pre .1)
 
 place-requires : tie.Need-place-requires

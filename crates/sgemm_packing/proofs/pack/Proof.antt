@@ -24,13 +24,13 @@ start t = t .before .before .before .before .before
 
 -- the panel fits, and its rows are not many
 room : (t : tie.In-loop Inv-loop μ-loop) → let a = start t .args in
-    (t .before .loop .ir * (a .kc * a .w) + a .kc * a .w ≤ length (now (a .pack))) × (t .before .loop .ir * a .w + a .w < 2 ^ 32)
+    (t .before .loop .ir * (a .kc * realPacking .floats (a .w)) + a .kc * realPacking .floats (a .w) ≤ length (now (a .pack))) × (t .before .loop .ir * a .w + a .w < 2 ^ 32)
 room t =
     let s = start t in
     let a = s .args in
     let l = t .before .loop in
     let i : l .ir < chunks (a .w) (a .m) = rw (l .inv .1) at (t .loop-test .taken) in
-    (omega (arith, next-fits (a .kc * a .w) i), omega (arith, next-fits (a .w) i, panels-most (a .w) (a .m) (s .pre .1 .1), s .pre .0 .modest .m-max))
+    (omega (arith, next-fits (a .kc * realPacking .floats (a .w)) i), omega (arith, next-fits (a .w) i, panels-most (a .w) (a .m) (s .pre .1 .1), s .pre .0 .modest .m-max))
 
 chunk-count-requires : tie.Need-chunk-count-requires Inv-loop μ-loop
 chunk-count-requires c κs = search needs

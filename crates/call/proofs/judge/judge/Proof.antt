@@ -1,11 +1,11 @@
 -- `judge` meets its contract: each return stands behind the tests before it, so its number is the first whose condition holds. Assumes nothing.
-use mathlib.Core.Path.{_≡_, subst, sym}
+use mathlib.Core.Path.{_≡_, subst}
 use mathlib.Core.Logic.{_⊎_, inl, inr}
-use Prim.Native.Nat.{ℕ, _<_}
+use Prim.Native.Nat.{ℕ}
 use native.Mathlib.Nat.{pos-of-ne-zero}
 use native.Mathlib.Omega.{arith}
 use borrow.Author.Needs.{needs}
-use Rattle.element.specs.Kinds.{viewOf, shapeOf}
+use Rattle.element.specs.Kinds.{viewOf}
 use Rattle.layout.specs.Place.{SomeOutside, TwoMeet}
 use Rattle.layout.specs.Need.{Large}
 use Rattle.layout.specs.Operands.{Modest}

@@ -1,10 +1,10 @@
--- `scale_one` meets its contract: the element's two floats are in the slice, and two stores are its `Updated`. Assumes nothing.
-use Prim.Native.Nat.{_+_, _*_, _<_}
+-- `scale_one` meets its contract: the element's place is in the slice, and two stores are its `Updated`. Assumes nothing.
+use Prim.Native.Nat.{_<_}
 use native.Mathlib.Omega.{arith}
 use lib.ListN.{length, length-set}
 use denote.Ref.{now}
 use Rattle.element.specs.Element.{scaled}
-use Rattle.element.specs.Complex32.{arith as ar, asComplex, fateOf}
+use Rattle.element.specs.Complex32.{arith as ar, view, asComplex, fateOf}
 use Rattle.element.specs.StoreLaws.{stored-pair-at}
 use Rattle.layout.specs.Place.{indexOf}
 use Rattle.layout.specs.PartLaws.{index-lt, reached}
@@ -13,8 +13,8 @@ use Rattle.cgemm.proofs.scale.scale_one.Statement.{statement}
 use Rattle.cgemm.proofs.scale.scale_one.Tie as tie
 
 -- the place is in the slice
-here : (s : tie.Start) → indexOf (s .args .lc) (s .args .i) (s .args .j) * 2 + 1 < length (now (s .args .c))
-here s = omega (arith, index-lt (s .pre .0 .readable) (s .args .i) (s .args .j) (s .pre .1 .0) (s .pre .1 .1))
+here : (s : tie.Start) → indexOf (s .args .lc) (s .args .i) (s .args .j) < view .count (length (now (s .args .c)))
+here s = index-lt (s .pre .0 .readable) (s .args .i) (s .args .j) (s .pre .1 .0) (s .pre .1 .1)
 
 place-requires : tie.Need-place-requires
 place-requires c κs = let s = c .before in reached (s .pre .0 .readable) (s .args .i) (s .args .j) (s .pre .1 .0) (s .pre .1 .1)
@@ -63,7 +63,7 @@ returns c =
     let s = c .before .before .before .before .before in
     let a = s .args in
     stored-pair-at (indexOf (a .lc)) (a .i) (a .j) (λ i j. scaled ar (fateOf (a .fate))) (now (a .c)) (asComplex (c .scaled .result)) (c .before .before .before .place .ensures) (c .scaled .ensures)
-    (here s)
+    (omega (arith, here s))
 
 pub scale-one-spec : {M : Type 1} → statement M
 scale-one-spec =

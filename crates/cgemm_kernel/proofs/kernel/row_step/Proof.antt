@@ -1,11 +1,11 @@
--- `row_step` meets its contract: below j the row's cells have their step's products added. Assumes nothing.
+-- `row_step` meets its contract: the row's cells are stepped in order, the row is `Filled` below j. Assumes nothing.
 use Prim.Native.Nat.{_-_}
 use mathlib.Core.Path.{ap, _∙_}
 use native.Mathlib.Omega.{arith}
 use lib.ListN.{getD}
 use Rattle.element.specs.Element.{Complex}
 use Rattle.element.specs.declared.complex32.Complex32.{Complex32}
-use Rattle.element.specs.Complex32.{arith as kind, held, asComplex, shape}
+use Rattle.element.specs.Complex32.{arith as ar, held, asComplex, shape}
 use Rattle.loops.specs.Tiles.{Filled}
 use Rattle.loops.specs.TileLaws.{filled-none, filled-more, filled-all}
 use Rattle.cgemm_kernel.specs.Parts.{both}
@@ -14,8 +14,7 @@ use Rattle.cgemm_kernel.proofs.kernel.row_step.Statement.{statement}
 use Rattle.cgemm_kernel.proofs.kernel.row_step.Tie as tie
 
 abbrev Inv-loop : tie.InvT-loop
-Inv-loop x rr ss u₀ j₀ u j =
-    Filled (held .blank) (shape .nr) j (λ j. held .of (kind .step (asComplex (getD u₀ j (held .blank))) (asComplex x) (both rr ss j))) u₀ u
+Inv-loop x rr ss u₀ j₀ u j = Filled (held .blank) (shape .nr) j (λ j. held .of (ar .step (asComplex (getD u₀ j (held .blank))) (asComplex x) (both rr ss j))) u₀ u
 
 abbrev μ-loop : tie.MeasureT-loop
 μ-loop x rr ss u₀ j₀ u j = shape .nr - j
@@ -61,7 +60,7 @@ loop-again c =
     let k = c .before .before .before .loop in
     let s = c .before .before .before .before .args in
     filled-more _ _ _ _ (k .j) (k .inv) (c .before .before .loop-test .taken)
-    (ap (λ (z : Complex). held .of z) (c .step .ensures) ∙ ap (λ (z : Complex32). held .of (kind .step (asComplex z) (asComplex (s .x)) (both (s .t3) (s .t4) (k .j)))) (k .inv .left (k .j) (omega arith)))
+    (ap (λ (z : Complex). held .of z) (c .step .ensures) ∙ ap (λ (z : Complex32). held .of (ar .step (asComplex z) (asComplex (s .x)) (both (s .t3) (s .t4) (k .j)))) (k .inv .left (k .j) (omega arith)))
 
 returns : tie.Need-returns Inv-loop μ-loop
 returns c = filled-all _ _ _ _ (c .before .loop .j) (c .before .loop .inv) (c .loop-test .left)

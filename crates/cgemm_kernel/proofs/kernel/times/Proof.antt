@@ -1,20 +1,19 @@
--- `times` meets its contract: below i the tile's rows are alpha times what they were. Assumes nothing.
+-- `times` meets its contract: the tile's rows are multiplied in order, the tile is `Filled` below i. Assumes nothing.
 use Prim.Native.Nat.{_-_}
 use mathlib.Core.Path.{ap, _∙_}
 use mathlib.Core.List.{List, []}
 use native.Mathlib.Omega.{arith}
 use lib.ListN.{getD}
 use Rattle.element.specs.declared.complex32.Complex32.{Complex32}
-use Rattle.element.specs.Complex32.{asComplex, shape}
-use Rattle.loops.specs.Tiles.{Filled}
+use Rattle.element.specs.Complex32.{arith as ar, held, asComplex, shape}
+use Rattle.loops.specs.Tiles.{rowTimes, Filled}
 use Rattle.loops.specs.TileLaws.{filled-none, filled-more, filled-all}
-use Rattle.cgemm_kernel.proofs.Laws.{rowTimes}
 use borrow.Author.Needs.{needs}
 use Rattle.cgemm_kernel.proofs.kernel.times.Statement.{statement}
 use Rattle.cgemm_kernel.proofs.kernel.times.Tie as tie
 
 abbrev Inv-loop : tie.InvT-loop
-Inv-loop alpha u₀ i₀ u i = Filled [] (shape .mr) i (λ i. rowTimes (asComplex alpha) (getD u₀ i [])) u₀ u
+Inv-loop alpha u₀ i₀ u i = Filled [] (shape .mr) i (λ i. rowTimes ar held (shape .nr) (asComplex alpha) (getD u₀ i [])) u₀ u
 
 abbrev μ-loop : tie.MeasureT-loop
 μ-loop alpha u₀ i₀ u i = shape .mr - i
@@ -46,9 +45,9 @@ loop-less c = search needs
 loop-again : tie.Need-loop-again Inv-loop μ-loop
 loop-again c =
     let k = c .before .before .before .loop in
-    let alpha = c .before .before .before .before .args .alpha in
+    let s = c .before .before .before .before .args in
     filled-more _ _ _ _ (k .i) (k .inv) (c .before .before .loop-test .taken)
-    (c .row-times .ensures ∙ ap (λ (z : List Complex32). rowTimes (asComplex alpha) z) (k .inv .left (k .i) (omega arith)))
+    (c .row-times .ensures ∙ ap (λ (z : List Complex32). rowTimes ar held (shape .nr) (asComplex (s .alpha)) z) (k .inv .left (k .i) (omega arith)))
 
 returns : tie.Need-returns Inv-loop μ-loop
 returns c = filled-all _ _ _ _ (c .before .loop .i) (c .before .loop .inv) (c .loop-test .left)

@@ -1,14 +1,14 @@
--- `put_row` meets its contract: below column j the row is put, and C is as long as it was. Assumes nothing.
+-- `put_row` meets its contract: below j the row's elements are put, the length is kept. Assumes nothing.
 use Prim.Native.Nat.{ℕ, _-_, _≤_}
 use mathlib.Core.Path.{_≡_, refl, ap}
 use native.Mathlib.Omega.{arith}
 use lib.ListN.{length, getD}
-use Rattle.element.specs.declared.complex32.Complex32.{Complex32}
 use Rattle.element.specs.Element.{put}
 use Rattle.element.specs.Slice.{Updated}
 use Rattle.element.specs.SliceLaws.{Region, untouched}
 use Rattle.element.specs.ViewLaws.{complex-lawful}
-use Rattle.element.specs.Complex32.{arith as kind, view, held, asComplex, fateOf}
+use Rattle.element.specs.declared.complex32.Complex32.{Complex32}
+use Rattle.element.specs.Complex32.{arith as ar, view, held, asComplex, fateOf}
 use Rattle.layout.specs.Place.{indexOf}
 use Rattle.layout.specs.PartLaws.{writable-long}
 use Rattle.loops.specs.PutLaws.{row-next}
@@ -17,8 +17,7 @@ use Rattle.cgemm_kernel.proofs.masked.put_row.Statement.{statement}
 use Rattle.cgemm_kernel.proofs.masked.put_row.Tie as tie
 
 abbrev Inv-loop : tie.InvT-loop
-Inv-loop fate c₀ lc rows cols i ab j₀ c j =
-    (j ≤ cols) × (length c ≡ length c₀) × Updated view (indexOf lc) (Region i 1 0 j) (λ i j. put kind (fateOf fate) (asComplex (getD ab j (held .blank)))) c₀ c
+Inv-loop fate c₀ lc rows cols i ab j₀ c j = (j ≤ cols) × (length c ≡ length c₀) × Updated view (indexOf lc) (Region i 1 0 j) (λ i j. put ar (fateOf fate) (asComplex (getD ab j (held .blank)))) c₀ c
 
 abbrev μ-loop : tie.MeasureT-loop
 μ-loop fate c₀ lc rows cols i ab j₀ c j = cols - j
@@ -35,7 +34,7 @@ array-copy-out-part c = search needs
 put-one-requires : tie.Need-put-one-requires Inv-loop μ-loop
 put-one-requires c κs =
     let s = c .before .before .before .before .before in
-    (writable-long (ap (λ (n : ℕ). view .count n) (c .before .before .before .loop .inv .1)) (s .pre .0), (s .pre .1 .0, c .before .before .loop-test .taken))
+    (writable-long (ap (λ (z : ℕ). view .count z) (c .before .before .before .loop .inv .1)) (s .pre .0), (omega arith, omega arith))
 
 add-j : tie.Need-add-j Inv-loop μ-loop
 add-j c = search needs
@@ -46,12 +45,8 @@ loop-less c = search needs
 loop-again : tie.Need-loop-again Inv-loop μ-loop
 loop-again c =
     let s = c .before .before .before .before .before .before .before .before in
-    let k = c .before .before .before .before .before .before .loop in (
-      omega arith,
-      search needs,
-      row-next complex-lawful (s .pre .0) (held .blank) (λ (x : Complex32). put kind (fateOf (s .args .fate)) (asComplex x)) (s .args .i) (k .j) (s .args .t1)
-          (s .pre .1 .0) (c .before .before .before .before .before .loop-test .taken) (k .inv .2) (c .before .before .put-one .ensures),
-    )
+    let k = c .before .before .before .before .before .before .loop in
+    (omega arith, search needs, row-next complex-lawful (s .pre .0) (held .blank) (λ (x : Complex32). put ar (fateOf (s .args .fate)) (asComplex x)) (s .args .i) (k .j) (s .args .t1) (omega arith) (omega arith) (k .inv .2) (c .before .before .put-one .ensures))
 
 same-length : tie.Need-same-length Inv-loop μ-loop
 same-length c = search needs

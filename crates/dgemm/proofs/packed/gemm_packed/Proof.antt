@@ -1,8 +1,8 @@
 -- Derived from crates/sgemm/proofs/packed/gemm_packed/Proof.antt by tools/derive: edit that.
 -- `gemm_packed` meets its contract (LOOP 2): count is the number of tile columns, the columns of the first j of them are settled, the
 -- length is kept. Assumes nothing.
-use Prim.Native.Nat.{min, _+_, _*_, _-_, _≤_, _<_}
-use mathlib.Core.Path.{_≡_, refl}
+use Prim.Native.Nat.{ℕ, min, _+_, _*_, _-_, _≤_, _<_}
+use mathlib.Core.Path.{_≡_, refl, ap}
 use native.Mathlib.Omega.{arith}
 use lib.ListN.{length}
 use denote.Ref.{now}
@@ -86,7 +86,7 @@ tile-column-requires c κs =
     let s = start t in
     let a = s .args in
     let k = t .before .loop in (
-      columns-written (s .pre .0) (shape .nr) (k .j) (turn t) (p .before .chunk-len .ensures) (p .part .ensures) (k .inv .2),
+      columns-written (s .pre .0) (shape .nr) (k .j) (turn t) (p .before .chunk-len .ensures) (p .part .ensures) (ap (λ (z : ℕ). view .count z) (k .inv .2)),
       (
         omega (arith, turn-most (shape .nr) (a .n) (k .j) (p .before .chunk-len .ensures)),
         s .pre .1 .0,

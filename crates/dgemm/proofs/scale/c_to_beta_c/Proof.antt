@@ -1,7 +1,7 @@
 -- Derived from crates/sgemm/proofs/scale/c_to_beta_c/Proof.antt by tools/derive: edit that.
 -- `c_to_beta_c` meets its contract: below row i all elements are scaled, the length is kept. Assumes nothing.
-use Prim.Native.Nat.{_-_, _≤_}
-use mathlib.Core.Path.{_≡_, refl}
+use Prim.Native.Nat.{ℕ, _-_, _≤_}
+use mathlib.Core.Path.{_≡_, refl, ap}
 use native.Mathlib.Omega.{arith}
 use lib.ListN.{length}
 use Rattle.element.specs.Element.{scaled}
@@ -28,7 +28,7 @@ loop-holds c = (omega arith, refl, untouched view _ (λ i j p. omega arith))
 scale-row-requires : tie.Need-scale-row-requires Inv-loop μ-loop
 scale-row-requires c κs =
     let s = c .before .before .before .before in
-    (writable-at refl (c .before .before .loop .inv .1) (s .pre), omega arith)
+    (writable-at refl (ap (λ (z : ℕ). view .count z) (c .before .before .loop .inv .1)) (s .pre), omega arith)
 
 add-i : tie.Need-add-i Inv-loop μ-loop
 add-i c = search needs

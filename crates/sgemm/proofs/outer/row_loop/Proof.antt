@@ -1,7 +1,7 @@
 -- `row_loop` meets its contract (LOOP 3): count is the number of row chunks, the rows of the first i of them are settled, C's length and
 -- the buffer from asize on are kept. Assumes nothing.
 use Prim.Native.Nat.{ℕ, min, _+_, _*_, _-_, _≤_, _<_}
-use mathlib.Core.Path.{_≡_, refl, sym, _∙_}
+use mathlib.Core.Path.{_≡_, refl, sym, ap}
 use native.Mathlib.Omega.{arith}
 use lib.ListN.{length, take, drop}
 use lib.Seq.{length-take-le}
@@ -120,7 +120,7 @@ gemm-packed-requires c κs =
     let k = c .before .before .before .before .before .before in
     let t = chunk k .before in
     let a = start t .args in (
-      rows-written (start t .pre .0) (shape .mc) (t .before .loop .i) (turn t) (chunk k .chunk-len .ensures) (k .before .before .part2 .ensures) (t .before .loop .inv .2),
+      rows-written (start t .pre .0) (shape .mc) (t .before .loop .i) (turn t) (chunk k .chunk-len .ensures) (k .before .before .part2 .ensures) (ap (λ (z : ℕ). view .count z) (t .before .loop .inv .2)),
       (
         omega (arith, fits (chunk k), length-take-le (a .asize) (k .pack .last .0) (omega (arith, room k))),
         rest-long (k .pack .last .0) (a .asize) (chunks (shape .nr) (a .n) * (a .kc * realPacking .floats (shape .nr))) (room k),

@@ -1,6 +1,6 @@
 -- `c_to_masked_ab_beta_c` meets its contract: below row i the tile's cells are put, the length is kept. Assumes nothing.
-use Prim.Native.Nat.{_-_, _≤_}
-use mathlib.Core.Path.{_≡_, refl}
+use Prim.Native.Nat.{ℕ, _-_, _≤_}
+use mathlib.Core.Path.{_≡_, refl, ap}
 use native.Mathlib.Omega.{arith}
 use lib.ListN.{length}
 use Rattle.element.specs.Element.{put}
@@ -34,7 +34,7 @@ array-copy-out-row c = search needs
 put-row-requires : tie.Need-put-row-requires Inv-loop μ-loop
 put-row-requires c κs =
     let s = c .before .before .before .before .before in
-    (writable-long (c .before .before .before .loop .inv .1) (s .pre .0), (omega arith, omega arith))
+    (writable-long (ap (λ (z : ℕ). view .count z) (c .before .before .before .loop .inv .1)) (s .pre .0), (omega arith, omega arith))
 
 add-i : tie.Need-add-i Inv-loop μ-loop
 add-i c = search needs

@@ -1,6 +1,6 @@
 -- `put_row` meets its contract: below j the row's elements are put, the length is kept. Assumes nothing.
-use Prim.Native.Nat.{_-_, _≤_}
-use mathlib.Core.Path.{_≡_, refl}
+use Prim.Native.Nat.{ℕ, _-_, _≤_}
+use mathlib.Core.Path.{_≡_, refl, ap}
 use native.Mathlib.Omega.{arith}
 use lib.ListN.{length, getD}
 use Rattle.element.specs.Element.{put}
@@ -33,7 +33,7 @@ array-read-part c = search needs
 put-one-requires : tie.Need-put-one-requires Inv-loop μ-loop
 put-one-requires c κs =
     let s = c .before .before .before .before in
-    (writable-long (c .before .before .loop .inv .1) (s .pre .0), (omega arith, omega arith))
+    (writable-long (ap (λ (z : ℕ). view .count z) (c .before .before .loop .inv .1)) (s .pre .0), (omega arith, omega arith))
 
 add-j : tie.Need-add-j Inv-loop μ-loop
 add-j c = search needs

@@ -10,6 +10,7 @@ use lib.ListN.{length}
 use denote.Ref.{now}
 use Rattle.element.specs.Complex64.{kind, view, asComplex}
 use Rattle.layout.specs.Operands.{Writable}
+use Rattle.call.specs.declared.judge.Lengths.{Lengths}
 use Rattle.call.specs.Demands.{numberOf, Verdict, Call, matrices, lengths}
 use Rattle.call.specs.RefusalLaws.{room-done}
 use Rattle.call.specs.Accepted.{writable-c, readable-a, readable-b}
@@ -24,21 +25,27 @@ start c = c .before .before .before .before .before .before
 abbrev whole : tie.Start → Call kind
 whole s = let a = s .args in record { m = a .m; k = a .k; n = a .n; alpha = asComplex (a .alpha); beta = asComplex (a .beta); a = a .la; b = a .lb; c = a .lc }
 
--- the call was not refused
-ok : (c : tie.Else1) → numberOf (c .before .before .judge .result) ≡ 0
-ok c = sym (c .before .number .ensures) ∙ c .if1 .left
+abbrev floats : tie.Start → Lengths
+floats s = let a = s .args in lengths (now (a .a)) (now (a .b)) (now (a .c)) (now (a .pack))
 
-accepted : (c : tie.Else1) → let s = start (c .before) in let a = s .args in Verdict kind (matrices (whole s)) (lengths (now (a .a)) (now (a .b)) (now (a .c)) (now (a .pack))) 0
-accepted c = let s = start (c .before) in let a = s .args in
-    subst (λ (z : ℕ). Verdict kind (matrices (whole s)) (lengths (now (a .a)) (now (a .b)) (now (a .c)) (now (a .pack))) z) (ok c) (c .before .before .judge .ensures)
+-- the call was not refused
+ok : (e : tie.Else1) → numberOf (e .before .before .judge .result) ≡ 0
+ok e = sym (e .before .number .ensures) ∙ e .if1 .left
+
+accepted : (e : tie.Else1) → let s = start (e .before) in Verdict kind (matrices (whole s)) (floats s) 0
+accepted e = let s = start (e .before) in subst (λ (z : ℕ). Verdict kind (matrices (whole s)) (floats s) z) (ok e) (e .before .before .judge .ensures)
 
 abbrev here : tie.Else3 → tie.Start
-here c = start (c .before .before .before)
+here e = start (e .before .before .before)
 
-target : (c : tie.Else3) → let a = here c .args in Writable (a .m) (a .n) (a .lc) (view .count (length (now (a .c))))
-target c = let s = here c in let a = s .args in
-    writable-c kind (matrices (whole s)) (lengths (now (a .a)) (now (a .b)) (now (a .c)) (now (a .pack))) (accepted (c .before .before)) (pos-of-ne-zero (c .before .if2 .left)) (pos-of-ne-zero (c .if3 .left))
-    (omega (arith, s .good))
+abbrev m-some : (e : tie.Else3) → 0 < here e .args .m
+m-some e = pos-of-ne-zero (e .before .if2 .left)
+
+abbrev n-some : (e : tie.Else3) → 0 < here e .args .n
+n-some e = pos-of-ne-zero (e .if3 .left)
+
+target : (e : tie.Else3) → let a = here e .args in Writable (a .m) (a .n) (a .lc) (view .count (length (now (a .c))))
+target e = let s = here e in writable-c kind (matrices (whole s)) (floats s) (accepted (e .before .before)) (m-some e) (n-some e) (omega (arith, s .good))
 
 judge-requires : tie.Need-judge-requires
 judge-requires c κs = search needs
@@ -81,17 +88,17 @@ returns-4 c =
 
 gemm-loop-requires : tie.Need-gemm-loop-requires
 gemm-loop-requires c κs =
-    let e4 = c .before .before in
-    let e3 = e4 .before in
-    let s = here e3 in
-    let a = s .args in
+    let e = c .before .before .before in
+    let s = here e in
     let q = matrices (whole s) in
-    let floats = lengths (now (a .a)) (now (a .b)) (now (a .c)) (now (a .pack)) in
-    let hm = pos-of-ne-zero (e3 .before .if2 .left) in
-    let hn = pos-of-ne-zero (e3 .if3 .left) in
-    let hk = pos-of-ne-zero (e4 .if4 .left) in
-    let v = accepted (e3 .before .before) in
-    (target e3, (readable-a kind q floats v hm hn hk (omega (arith, s .good)), (readable-b kind q floats v hm hn hk (omega (arith, s .good)), room-done kind q floats v hm hn hk)))
+    let v = accepted (e .before .before) in
+    let hk = pos-of-ne-zero (c .before .before .if4 .left) in (
+      target e,
+      (
+        readable-a kind q (floats s) v (m-some e) (n-some e) hk (omega (arith, s .good)),
+        (readable-b kind q (floats s) v (m-some e) (n-some e) hk (omega (arith, s .good)), room-done kind q (floats s) v (m-some e) (n-some e) hk),
+      ),
+    )
 
 same-length-2 : tie.Need-same-length-2
 same-length-2 c = search needs
@@ -102,14 +109,12 @@ same-length-3 c = search needs
 returns-5 : tie.Need-returns-5
 returns-5 c =
     let g = c .before .before .before .before in
-    let e4 = g .before .before .before in
-    let e3 = e4 .before in
-    let e = e3 .before .before in
-    let j = e .before .before in
-    let s = start (e .before) in
+    let e = g .before .before .before .before in
+    let j = e .before .before .before .before in
+    let s = here e in
     let a = s .args in
-    out-full (whole s) (now (a .a)) (now (a .b)) (now (a .c)) (now (a .pack)) (j .judge .result) (j .judge .ensures) (ok e)
-    (pos-of-ne-zero (e3 .before .if2 .left)) (pos-of-ne-zero (e4 .if4 .left)) (pos-of-ne-zero (e3 .if3 .left)) (g .gemm-loop .ensures .0) (g .gemm-loop .ensures .1)
+    out-full (whole s) (now (a .a)) (now (a .b)) (now (a .c)) (now (a .pack)) (j .judge .result) (j .judge .ensures) (ok (e .before .before))
+    (m-some e) (pos-of-ne-zero (g .before .before .before .if4 .left)) (n-some e) (g .gemm-loop .ensures .0) (g .gemm-loop .ensures .1)
 
 pub zgemm-spec : {M : Type 1} → statement M
 zgemm-spec =

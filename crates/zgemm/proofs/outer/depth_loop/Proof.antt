@@ -5,7 +5,7 @@ use Prim.Native.Nat.{ℕ, min, _+_, _*_, _-_, _≤_, _<_}
 use mathlib.Core.Path.{_≡_, refl, sym, ap, _∙_}
 use mathlib.Core.List.{List}
 use native.Mathlib.Omega.{arith}
-use lib.ListN.{length}
+use lib.ListN.{length, drop}
 use lib.Ieee.{Float}
 use denote.Ref.{now}
 use borrow.Rule.Slice.PartMut.{putMid}
@@ -16,15 +16,14 @@ use Rattle.element.specs.Runs.{splice}
 use Rattle.element.specs.RunLaws.{lent-from}
 use Rattle.element.specs.Slice.{Updated, Block}
 use Rattle.layout.specs.Place.{indexOf}
-use Rattle.layout.specs.Operands.{transposed}
-use Rattle.layout.specs.ChunkLaws.{chunk-start, chunk-some, chunk-inside}
-use Rattle.layout.specs.PartLaws.{reached, readable-part, readable-at, readable-transposed, writable-at}
-use Rattle.loops.specs.Panels.{complexPacking, elem, padded, packed}
+use Rattle.layout.specs.Operands.{Reachable}
+use Rattle.layout.specs.PartLaws.{readable-at, readable-transposed, writable-at}
+use Rattle.loops.specs.Panels.{complexPacking, elem, padded, packed, unpacked}
 use Rattle.loops.specs.PanelLaws.{complex-packing, rest-long}
-use Rattle.loops.specs.Work.{deep, KeptFrom, Packs}
-use Rattle.loops.specs.LoopLaws.{turn-least}
+use Rattle.loops.specs.Work.{settled, deep, KeptFrom, Packs}
 use Rattle.loops.specs.BufferLaws.{kept-none, kept-then, kept-more, kept-behind, packs-less, packs-long}
 use Rattle.loops.specs.DepthLoop.{depth-none, depth-more}
+use Rattle.loops.specs.TurnLaws.{rows-reached, columns-reached, rows-read, columns-read, turn-most}
 use borrow.Author.Needs.{needs}
 use Rattle.zgemm.proofs.outer.depth_loop.Statement.{statement}
 use Rattle.zgemm.proofs.outer.depth_loop.Tie as tie
@@ -48,18 +47,12 @@ start t = entry (t .before .before)
 turn : (t : tie.In-loop Inv-loop μ-loop) → t .before .loop .p < chunks (shape .kc) (start t .args .k)
 turn t = rw (t .before .loop .inv .1) at (t .loop-test .taken)
 
--- the chunk begins in the depth
-begins : (t : tie.In-loop Inv-loop μ-loop) → let a = start t .args in (t .before .loop .p * shape .kc < a .k) × (a .k ≤ 65536)
-begins t = let s = start t in (chunk-start (shape .kc) (s .args .k) (t .before .loop .p) (turn t), s .pre .1 .0 .modest .n-max)
+-- the chunk begins in A, and is no longer than the longest
+first : (t : tie.In-loop Inv-loop μ-loop) → Reachable (start t .args .la) 0 (t .before .loop .p * shape .kc)
+first t = columns-reached (start t .pre .1 .0) (shape .kc) (t .before .loop .p) (turn t)
 
--- it is not empty, ends in the depth, and is no longer than the longest
-span : (l : tie.After-chunk-len Inv-loop μ-loop) → let a = start (l .before) .args in let r = l .chunk-len .result in
-    (0 < r) × (l .before .before .loop .p * shape .kc + r ≤ a .k) × (r ≤ min (a .k) (shape .kc))
-span l = let k = start (l .before) .args .k in let p = l .before .before .loop .p in (
-  omega (arith, l .chunk-len .ensures, chunk-some (shape .kc) k p (omega arith) (turn (l .before))),
-  omega (arith, l .chunk-len .ensures, chunk-inside (shape .kc) k p (turn (l .before))),
-  omega (arith, l .chunk-len .ensures, turn-least (shape .kc) k p),
-)
+most : (l : tie.After-chunk-len Inv-loop μ-loop) → l .chunk-len .result ≤ min (start (l .before) .args .k) (shape .kc)
+most l = turn-most (shape .kc) (start (l .before) .args .k) (l .before .before .loop .p) (l .chunk-len .ensures)
 
 -- the buffer is shared as at the start, for the longest chunk and for this one
 shares : (t : tie.In-loop Inv-loop μ-loop) → let a = start t .args in Packs complexPacking (shape .mr) (shape .nr) (shape .mc) (a .m) (a .n) (min (a .k) (shape .kc)) (a .asize) (length (t .before .loop .pack))
@@ -67,7 +60,7 @@ shares t = packs-long (t .before .loop .inv .4 .same-length) (start t .pre .1 .1
 
 fits : (l : tie.After-chunk-len Inv-loop μ-loop) → let a = start (l .before) .args in
     Packs complexPacking (shape .mr) (shape .nr) (shape .mc) (a .m) (a .n) (l .chunk-len .result) (a .asize) (length (l .before .before .loop .pack))
-fits l = packs-less (span l .2) (shares (l .before))
+fits l = packs-less (most l) (shares (l .before))
 
 -- the turn in which B was packed, and the buffer before and after
 abbrev chunk : tie.After-pack Inv-loop μ-loop → tie.After-chunk-len Inv-loop μ-loop
@@ -92,7 +85,7 @@ lent k = lent-from (old k) (owner k .args .asize) _ (omega (arith, shares (chunk
 kept : (k : tie.After-pack Inv-loop μ-loop) → let a = owner k .args in
     KeptFrom (a .asize + chunks (shape .nr) (a .n) * (min (a .k) (shape .kc) * complexPacking .floats (shape .nr))) (old k) (filled k)
 kept k = let a = owner k .args in
-    kept-behind complex-packing (shape .nr) (chunk k .chunk-len .result) (min (a .k) (shape .kc)) (a .n) (a .asize) (columns k) (old k) (lent k) (span (chunk k) .2) (shares (chunk k .before) .rest)
+    kept-behind complex-packing (shape .nr) (chunk k .chunk-len .result) (min (a .k) (shape .kc)) (a .n) (a .asize) (columns k) (old k) (lent k) (most (chunk k)) (shares (chunk k .before) .rest)
 
 chunk-count-requires : tie.Need-chunk-count-requires Inv-loop μ-loop
 chunk-count-requires c κs = search needs
@@ -107,18 +100,16 @@ chunk-len-requires : tie.Need-chunk-len-requires Inv-loop μ-loop
 chunk-len-requires c κs = turn c
 
 mul-part : tie.Need-mul-part Inv-loop μ-loop
-mul-part c = omega (arith, begins (c .before))
+mul-part c = omega (arith, first (c .before) .j-max)
 
 part-requires : tie.Need-part-requires Inv-loop μ-loop
-part-requires c κs = let t = c .before in let s = start t in
-    reached (s .pre .1 .0) 0 (t .before .loop .p * shape .kc) (s .pre .1 .0 .m-some) (begins t .0)
+part-requires c κs = first (c .before)
 
 mul-part-2 : tie.Need-mul-part-2 Inv-loop μ-loop
-mul-part-2 c = omega (arith, begins (c .before .before))
+mul-part-2 c = omega (arith, first (c .before .before) .j-max)
 
 part-requires-2 : tie.Need-part-requires-2 Inv-loop μ-loop
-part-requires-2 c κs = let t = c .before .before in let s = start t in
-    reached (s .pre .1 .1 .0) (t .before .loop .p * shape .kc) 0 (begins t .0) (s .pre .1 .1 .0 .n-some)
+part-requires-2 c κs = let t = c .before .before in rows-reached (start t .pre .1 .1 .0) (shape .kc) (t .before .loop .p) (turn t)
 
 transpose-requires : tie.Need-transpose-requires Inv-loop μ-loop
 transpose-requires c κs = search needs
@@ -137,13 +128,11 @@ part-pack-end c = omega (arith, shares (c .before .before .before .before) .rest
 
 pack-requires : tie.Need-pack-requires Inv-loop μ-loop
 pack-requires c κs =
-    let p2 = c .before .before in
-    let l = p2 .before .before in
+    let p = c .before .before in
+    let l = p .before .before in
     let t = l .before in
-    let s = start t in
-    let a = s .args in (
-      readable-at (c .before .transpose .ensures ∙ ap transposed (p2 .part2 .ensures))
-          (readable-transposed (readable-part (s .pre .1 .1 .0) (t .before .loop .p * shape .kc) 0 (l .chunk-len .result) (a .n) (span l .1) (omega arith) (span l .0) (s .pre .1 .1 .0 .n-some))),
+    let a = start t .args in (
+      readable-at (c .before .transpose .ensures) (readable-transposed (rows-read (start t .pre .1 .1 .0) (shape .kc) (t .before .loop .p) (turn t) (l .chunk-len .ensures) (p .part2 .ensures))),
       (rest-long (t .before .loop .pack) (a .asize) (chunks (shape .nr) (a .n) * (l .chunk-len .result * complexPacking .floats (shape .nr))) (fits l .rest), omega arith, omega arith),
     )
 
@@ -153,15 +142,12 @@ from-beta-requires c κs = search needs
 row-loop-requires : tie.Need-row-loop-requires Inv-loop μ-loop
 row-loop-requires c κs =
     let k = c .before .before .before .before .before in
-    let l = chunk k in
-    let t = l .before in
-    let s = start t in
-    let a = s .args in (
+    let t = chunk k .before in
+    let s = start t in (
       writable-at refl (ap (λ (z : ℕ). view .count z) (t .before .loop .inv .3)) (s .pre .0),
       (
-        readable-at (k .before .before .before .before .part .ensures)
-            (readable-part (s .pre .1 .0) 0 (t .before .loop .p * shape .kc) (a .m) (l .chunk-len .result) (omega arith) (span l .1) (s .pre .1 .0 .m-some) (span l .0)),
-        packs-long (kept k .same-length) (fits l),
+        columns-read (s .pre .1 .0) (shape .kc) (t .before .loop .p) (turn t) (chunk k .chunk-len .ensures) (k .before .before .before .before .part .ensures),
+        packs-long (kept k .same-length) (fits (chunk k)),
       ),
     )
 
@@ -169,30 +155,37 @@ one-requires : tie.Need-one-requires Inv-loop μ-loop
 one-requires c κs = search needs
 
 add-p : tie.Need-add-p Inv-loop μ-loop
-add-p c = let k = c .before .before .before .before .before .before .before .before .before .before .before in omega (arith, begins (chunk k .before))
+add-p c = omega (arith, first (chunk (c .before .before .before .before .before .before .before .before .before .before .before) .before) .j-max)
 
 loop-less : tie.Need-loop-less Inv-loop μ-loop
 loop-less c = search needs
 
+-- one chunk more of the depth
+deepens : (f : tie.After-from-beta Inv-loop μ-loop) {D : List Float} → let k = f .before .before .before in let l = chunk k in let t = l .before in let a = start t .args in
+    Updated view (indexOf (a .lc)) (Block (a .m) (a .n)) (settled ar (fateOf (f .from-beta .result)) (asComplex (a .alpha)) (elem view (now (a .a)) (k .before .before .before .before .part .result))
+    (unpacked complexPacking (drop (a .asize) (filled k)) (shape .nr) (l .chunk-len .result)) (l .chunk-len .result)) (t .before .loop .c) D
+    → Updated view (indexOf (a .lc)) (Block (a .m) (a .n)) (deep ar view (shape .kc) (asComplex (a .alpha)) (asComplex (a .beta)) (now (a .a)) (a .la) (now (a .b)) (a .lb) (a .k) (t .before .loop .p + 1)) (now (a .c)) D
+deepens f u =
+    let k = f .before .before .before in
+    let s = owner k in
+    let a = s .args in
+    let lp = chunk k .before .before .loop in
+    depth-more ar view complex-packing (shape .kc) (shape .nr) (omega arith) (asComplex (a .alpha)) (asComplex (a .beta)) (now (a .a)) (now (a .b)) (s .pre .1 .0) (s .pre .1 .1 .0) (a .asize) (lp .p) (chunk k .chunk-len .result)
+    (fateOf (f .from-beta .result)) (asComplex (lp .by)) (old k) (indexOf (a .lc)) (turn (chunk k .before)) (chunk k .chunk-len .ensures) (lp .inv .2) (f .from-beta .ensures)
+    (k .before .before .before .before .part .ensures) (k .before .before .before .part2 .ensures) (k .before .before .transpose .ensures) (lent k) (omega (arith, shares (chunk k .before) .rest)) (lp .inv .5) u
+
 loop-again : tie.Need-loop-again Inv-loop μ-loop
 loop-again c =
     let r = c .before .before .before .before .before in
-    let f = r .before .before .before in
-    let k = f .before .before .before in
-    let l = chunk k in
-    let t = l .before in
-    let s = start t in
-    let a = s .args in
+    let k = r .before .before .before .before .before .before in
+    let t = chunk k .before in
     let lp = t .before .loop in (
       omega (arith, t .loop-test .taken),
       lp .inv .1,
-      c .one .ensures ∙ sym (multiplier-later ar (asComplex (a .beta)) (lp .p + 1) (omega arith)),
+      c .one .ensures ∙ sym (multiplier-later ar (asComplex (start t .args .beta)) (lp .p + 1) (omega arith)),
       search needs,
       kept-then (lp .inv .4) (kept-then (kept k) (kept-more (omega arith) (r .row-loop .ensures .1))),
-      depth-more ar view complex-packing (shape .kc) (shape .nr) (omega arith) (asComplex (a .alpha)) (asComplex (a .beta)) (now (a .a)) (now (a .b)) (s .pre .1 .0) (s .pre .1 .1 .0) (a .asize) (lp .p) (l .chunk-len .result)
-          (fateOf (f .from-beta .result)) (asComplex (lp .by)) (old k) (indexOf (a .lc)) (turn t) (l .chunk-len .ensures) (lp .inv .2) (f .from-beta .ensures)
-          (k .before .before .before .before .part .ensures) (k .before .before .before .part2 .ensures) (k .before .before .transpose .ensures) (lent k) (omega (arith, shares t .rest))
-          (lp .inv .5) (r .row-loop .ensures .0),
+      deepens (r .before .before .before) (r .row-loop .ensures .0),
     )
 
 same-length : tie.Need-same-length Inv-loop μ-loop

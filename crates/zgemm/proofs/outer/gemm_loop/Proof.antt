@@ -13,13 +13,14 @@ use Rattle.element.specs.ViewLaws.{complex-lawful}
 use Rattle.layout.specs.Place.{indexOf}
 use Rattle.layout.specs.Need.{roundUp, needOf}
 use Rattle.layout.specs.NeedLaws.{round-lt}
-use Rattle.layout.specs.ChunkLaws.{chunk-start, chunk-some, chunk-inside}
-use Rattle.layout.specs.PartLaws.{reached, readable-part, readable-at, writable-part, writable-at}
+use Rattle.layout.specs.Operands.{Reachable}
+use Rattle.layout.specs.ChunkLaws.{chunk-start}
 use Rattle.loops.specs.Panels.{complexPacking}
-use Rattle.loops.specs.Work.{deep, KeptFrom}
-use Rattle.loops.specs.LoopLaws.{columns-start, columns-turn, columns-end, turn-least}
+use Rattle.loops.specs.Work.{deep, KeptFrom, Packs}
+use Rattle.loops.specs.LoopLaws.{columns-start, columns-turn, columns-end}
 use Rattle.loops.specs.BufferLaws.{kept-none, kept-then, kept-more, packs-long}
 use Rattle.loops.specs.ColumnLoop.{complex-family, shared-fits, shared-packs, kept-elements, deep-columns}
+use Rattle.loops.specs.TurnLaws.{columns-reached, columns-read, columns-written, turn-most}
 use borrow.Author.Needs.{needs}
 use Rattle.zgemm.proofs.outer.gemm_loop.Statement.{statement}
 use Rattle.zgemm.proofs.outer.gemm_loop.Tie as tie
@@ -50,18 +51,17 @@ asize-is r = λ i. r .least2 .ensures i * complexPacking .floats (rows-is (r .be
 turn : (t : tie.In-loop Inv-loop μ-loop) → t .before .loop .j < chunks (shape .nc) (start t .args .n)
 turn t = rw (t .before .loop .inv .1) at (t .loop-test .taken)
 
--- the chunk begins in the matrix
-begins : (t : tie.In-loop Inv-loop μ-loop) → let a = start t .args in (t .before .loop .j * shape .nc < a .n) × (a .n ≤ 65536)
-begins t = let s = start t in (chunk-start (shape .nc) (s .args .n) (t .before .loop .j) (turn t), s .pre .0 .readable .modest .n-max)
+-- the chunk begins in C, and is no longer than the longest
+first : (t : tie.In-loop Inv-loop μ-loop) → Reachable (start t .args .lc) 0 (t .before .loop .j * shape .nc)
+first t = columns-reached (start t .pre .0 .readable) (shape .nc) (t .before .loop .j) (turn t)
 
--- it is not empty, ends in the matrix, and is no longer than the longest
-span : (l : tie.After-chunk-len Inv-loop μ-loop) → let a = start (l .before) .args in let r = l .chunk-len .result in
-    (0 < r) × (l .before .before .loop .j * shape .nc + r ≤ a .n) × (r ≤ min (a .n) (shape .nc))
-span l = let n = start (l .before) .args .n in let j = l .before .before .loop .j in (
-  omega (arith, l .chunk-len .ensures, chunk-some (shape .nc) n j (omega arith) (turn (l .before))),
-  omega (arith, l .chunk-len .ensures, chunk-inside (shape .nc) n j (turn (l .before))),
-  omega (arith, l .chunk-len .ensures, turn-least (shape .nc) n j),
-)
+most : (l : tie.After-chunk-len Inv-loop μ-loop) → l .chunk-len .result ≤ min (start (l .before) .args .n) (shape .nc)
+most l = turn-most (shape .nc) (start (l .before) .args .n) (l .before .before .loop .j) (l .chunk-len .ensures)
+
+-- A's panels and those of nc columns are within the need
+within : (s : tie.Start Inv-loop μ-loop) {asize : ℕ} (nc : ℕ) → let a = s .args in nc ≤ min (a .n) (shape .nc) → asize ≡ min (a .k) (shape .kc) * complexPacking .floats (roundUp (min (a .m) (shape .mc)) (shape .mr))
+    → asize + chunks (shape .nr) nc * (min (a .k) (shape .kc) * complexPacking .floats (shape .nr)) ≤ needOf shape (a .m) (a .k) (a .n) * complex-family .per
+within s nc l e = shared-fits complex-family shape (s .args .m) (s .args .k) (s .args .n) (omega arith) (s .pre .1 .0 .m-some) (s .pre .1 .0 .n-some) (s .pre .1 .1 .0 .n-some) nc l e
 
 least-requires : tie.Need-least-requires Inv-loop μ-loop
 least-requires c κs = search needs
@@ -76,16 +76,8 @@ add-asize : tie.Need-add-asize Inv-loop μ-loop
 add-asize c = let m = entry c .args .m in omega (arith, rows-is (c .before), round-lt (min m (shape .mc)) (shape .mr) (omega arith))
 
 mul-asize : tie.Need-mul-asize Inv-loop μ-loop
-mul-asize c =
-    let s = entry c in
-    let a = s .args in
-    omega (
-      arith,
-      asize-is c,
-      s .good,
-      complex-family .room (needOf shape (a .m) (a .k) (a .n)) (length (now (a .pack))) (s .pre .1 .1 .1),
-      shared-fits complex-family shape (a .m) (a .k) (a .n) (omega arith) (s .pre .1 .0 .m-some) (s .pre .1 .0 .n-some) (s .pre .1 .1 .0 .n-some) 0 (omega arith) (asize-is c),
-    )
+mul-asize c = let s = entry c in let a = s .args in
+    omega (arith, asize-is c, s .good, complex-family .room (needOf shape (a .m) (a .k) (a .n)) (length (now (a .pack))) (s .pre .1 .1 .1), within s 0 (omega arith) (asize-is c))
 
 chunk-count-requires : tie.Need-chunk-count-requires Inv-loop μ-loop
 chunk-count-requires c κs = search needs
@@ -97,39 +89,35 @@ chunk-len-requires : tie.Need-chunk-len-requires Inv-loop μ-loop
 chunk-len-requires c κs = turn c
 
 mul-part : tie.Need-mul-part Inv-loop μ-loop
-mul-part c = omega (arith, begins (c .before))
+mul-part c = omega (arith, first (c .before) .j-max)
 
 part-requires : tie.Need-part-requires Inv-loop μ-loop
-part-requires c κs = let t = c .before in let s = start t in
-    reached (s .pre .1 .1 .0) 0 (t .before .loop .j * shape .nc) (s .pre .1 .1 .0 .m-some) (begins t .0)
+part-requires c κs = let t = c .before in columns-reached (start t .pre .1 .1 .0) (shape .nc) (t .before .loop .j) (turn t)
 
 mul-part-2 : tie.Need-mul-part-2 Inv-loop μ-loop
-mul-part-2 c = omega (arith, begins (c .before .before))
+mul-part-2 c = omega (arith, first (c .before .before) .j-max)
 
 part-requires-2 : tie.Need-part-requires-2 Inv-loop μ-loop
-part-requires-2 c κs = let t = c .before .before in let s = start t in
-    reached (s .pre .0 .readable) 0 (t .before .loop .j * shape .nc) (s .pre .0 .readable .m-some) (begins t .0)
+part-requires-2 c κs = first (c .before .before)
+
+-- the code's asize, and the buffer shared out for this chunk
+abbrev asize : tie.After-chunk-len Inv-loop μ-loop → ℕ
+asize l = let r = l .before .before .before .before in r .least2 .result * (r .before .round-up-to .result + r .before .round-up-to .result)
+
+shares : (l : tie.After-chunk-len Inv-loop μ-loop) → let k = l .before .before .loop in let s = start (l .before) in let a = s .args in
+    Packs complexPacking (shape .mr) (shape .nr) (shape .mc) (a .m) (l .chunk-len .result) (min (a .k) (shape .kc)) (asize l) (length (k .pack))
+shares l = let k = l .before .before .loop in let s = start (l .before) in let a = s .args in
+    packs-long (k .inv .4 .same-length)
+    (shared-packs complex-family shape (a .m) (a .k) (a .n) (omega arith) (s .pre .1 .0 .m-some) (s .pre .1 .0 .n-some) (s .pre .1 .1 .0 .n-some) (l .chunk-len .result) (most l) (k .inv .2) (s .pre .1 .1 .1))
 
 depth-loop-requires : tie.Need-depth-loop-requires Inv-loop μ-loop
 depth-loop-requires c κs =
     let p = c .before .before in
     let l = p .before .before in
-    let t = l .before in
-    let s = start t in
-    let a = s .args in
-    let lp = t .before .loop in (
-      writable-at (p .part2 .ensures) (ap (λ (z : ℕ). view .count z) (lp .inv .3))
-          (writable-part (s .pre .0) 0 (lp .j * shape .nc) (a .m) (l .chunk-len .result) (omega arith) (span l .1) (s .pre .0 .readable .m-some) (span l .0)),
-      (
-        s .pre .1 .0,
-        (
-          readable-at (p .before .part .ensures)
-              (readable-part (s .pre .1 .1 .0) 0 (lp .j * shape .nc) (a .k) (l .chunk-len .result) (omega arith) (span l .1) (s .pre .1 .1 .0 .m-some) (span l .0)),
-          packs-long (lp .inv .4 .same-length)
-              (shared-packs complex-family shape (a .m) (a .k) (a .n) (omega arith) (s .pre .1 .0 .m-some) (s .pre .1 .0 .n-some) (s .pre .1 .1 .0 .n-some) (l .chunk-len .result) (span l .2) (lp .inv .2)
-              (s .pre .1 .1 .1)),
-        ),
-      ),
+    let s = start (l .before) in
+    let k = l .before .before .loop in (
+      columns-written (s .pre .0) (shape .nc) (k .j) (turn (l .before)) (l .chunk-len .ensures) (p .part2 .ensures) (ap (λ (z : ℕ). view .count z) (k .inv .3)),
+      (s .pre .1 .0, (columns-read (s .pre .1 .1 .0) (shape .nc) (k .j) (turn (l .before)) (l .chunk-len .ensures) (p .before .part .ensures), shares l)),
     )
 
 add-j : tie.Need-add-j Inv-loop μ-loop
@@ -138,27 +126,27 @@ add-j c = search needs
 loop-less : tie.Need-loop-less Inv-loop μ-loop
 loop-less c = search needs
 
+-- what the chunk's columns are in the whole
+whole : (p : tie.After-part2 Inv-loop μ-loop) (i j : ℕ) (x : ar .E) → let t = p .before .before .before in let a = start t .args in
+    deep ar view (shape .kc) (asComplex (a .alpha)) (asComplex (a .beta)) (now (a .a)) (a .la) (now (a .b)) (p .before .part .result) (a .k) (chunks (shape .kc) (a .k)) i j x
+    ≡ deep ar view (shape .kc) (asComplex (a .alpha)) (asComplex (a .beta)) (now (a .a)) (a .la) (now (a .b)) (a .lb) (a .k) (chunks (shape .kc) (a .k)) i (t .before .loop .j * shape .nc + j) x
+whole p i j x = let t = p .before .before .before in let s = start t in let a = s .args in let k = t .before .loop in
+    deep-columns ar view (shape .kc) (asComplex (a .alpha)) (asComplex (a .beta)) (now (a .a)) (now (a .b)) (a .la) (s .pre .1 .1 .0) (k .j * shape .nc) (chunk-start (shape .nc) (a .n) (k .j) (turn t))
+    (p .before .part .ensures) (a .k) (chunks (shape .kc) (a .k)) i j x
+
 loop-again : tie.Need-loop-again Inv-loop μ-loop
 loop-again c =
     let d = c .before .before .before .before in
     let p = d .before .before .before in
     let l = p .before .before in
-    let t = l .before in
-    let s = start t in
-    let a = s .args in
-    let lp = t .before .loop in (
-      omega (arith, t .loop-test .taken),
-      lp .inv .1,
-      lp .inv .2,
+    let s = start (l .before) in
+    let k = l .before .before .loop in (
+      omega (arith, l .before .loop-test .taken),
+      k .inv .1,
+      k .inv .2,
       search needs,
-      kept-then (lp .inv .4)
-          (kept-more (shared-fits complex-family shape (a .m) (a .k) (a .n) (omega arith) (s .pre .1 .0 .m-some) (s .pre .1 .0 .n-some) (s .pre .1 .1 .0 .n-some) (l .chunk-len .result) (span l .2) (lp .inv .2))
-          (d .depth-loop .ensures .1)),
-      columns-turn complex-lawful (s .pre .0) (shape .nc) (lp .j) (turn t) (l .chunk-len .ensures) (p .part2 .ensures)
-          (λ i j hi hj x. deep-columns ar view (shape .kc) (asComplex (a .alpha)) (asComplex (a .beta)) (now (a .a)) (now (a .b)) (a .la) (s .pre .1 .1 .0) (lp .j * shape .nc) (begins t .0) (p .before .part .ensures)
-          (a .k) (chunks (shape .kc) (a .k)) i j x)
-          (lp .inv .5)
-          (d .depth-loop .ensures .0),
+      kept-then (k .inv .4) (kept-more (within s (l .chunk-len .result) (most l) (k .inv .2)) (d .depth-loop .ensures .1)),
+      columns-turn complex-lawful (s .pre .0) (shape .nc) (k .j) (turn (l .before)) (l .chunk-len .ensures) (p .part2 .ensures) (λ i j hi hj x. whole p i j x) (k .inv .5) (d .depth-loop .ensures .0),
     )
 
 same-length : tie.Need-same-length Inv-loop μ-loop
@@ -171,10 +159,8 @@ returns : tie.Need-returns Inv-loop μ-loop
 returns c =
     let l = c .before .loop in
     let a = entry (c .before .before .before) .args in
-    let z = kept-elements complex-family (needOf shape (a .m) (a .k) (a .n)) (l .inv .4) (omega arith) in (
-      columns-end view _ (shape .nc) (a .m) (a .n) (l .j) (omega arith) (omega (arith, l .inv .1, c .loop-test .left)) (l .inv .5),
-      record { same-length = z .0; beyond = z .1 },
-    )
+    let z = kept-elements complex-family (needOf shape (a .m) (a .k) (a .n)) (l .inv .4) (omega arith) in
+    (columns-end view _ (shape .nc) (a .m) (a .n) (l .j) (omega arith) (omega (arith, l .inv .1, c .loop-test .left)) (l .inv .5), record { same-length = z .0; beyond = z .1 })
 
 pub gemm-loop-spec : {M : Type 1} → statement M
 gemm-loop-spec =

@@ -2,9 +2,9 @@
 -- `row_loop` meets its contract (LOOP 3): count is the number of row chunks, the rows of the first i of them are settled, C's length and
 -- the buffer from asize on are kept. Assumes nothing.
 use Prim.Native.Nat.{ℕ, min, _+_, _*_, _-_, _≤_, _<_}
-use mathlib.Core.Path.{_≡_, refl, ap, sym, _∙_}
+use mathlib.Core.Path.{_≡_, refl, sym, ap}
 use native.Mathlib.Omega.{arith}
-use lib.ListN.{length, drop}
+use lib.ListN.{length, take, drop}
 use lib.Seq.{length-take-le}
 use denote.Ref.{now}
 use Rattle.element.specs.Element.{chunks}
@@ -12,13 +12,14 @@ use Rattle.element.specs.Complex64.{arith as ar, view, asComplex, shape, fateOf
 use Rattle.element.specs.Slice.{Updated, Block}
 use Rattle.element.specs.ViewLaws.{complex-lawful}
 use Rattle.layout.specs.Place.{indexOf}
-use Rattle.layout.specs.ChunkLaws.{chunk-start, chunk-some, chunk-inside}
-use Rattle.layout.specs.PartLaws.{reached, readable-part, readable-at, writable-part, writable-at}
+use Rattle.layout.specs.Operands.{Reachable}
+use Rattle.layout.specs.ChunkLaws.{chunk-start}
 use Rattle.loops.specs.Panels.{complexPacking, elem, unpacked}
 use Rattle.loops.specs.PanelLaws.{complex-packing, rest-long}
 use Rattle.loops.specs.Work.{settled, KeptFrom}
-use Rattle.loops.specs.LoopLaws.{rows-start, rows-turn, rows-end, turn-least}
+use Rattle.loops.specs.LoopLaws.{rows-start, rows-turn, rows-end}
 use Rattle.loops.specs.BufferLaws.{kept-none, kept-then, kept-front, front-fits, chunk-rows}
+use Rattle.loops.specs.TurnLaws.{rows-reached, rows-read, rows-written, turn-most}
 use borrow.Author.Needs.{needs}
 use Rattle.zgemm.proofs.outer.row_loop.Statement.{statement}
 use Rattle.zgemm.proofs.outer.row_loop.Tie as tie
@@ -41,22 +42,13 @@ start t = entry (t .before .before)
 turn : (t : tie.In-loop Inv-loop μ-loop) → t .before .loop .i < chunks (shape .mc) (start t .args .m)
 turn t = rw (t .before .loop .inv .1) at (t .loop-test .taken)
 
--- the chunk begins in the matrix
-begins : (t : tie.In-loop Inv-loop μ-loop) → let a = start t .args in (t .before .loop .i * shape .mc < a .m) × (a .m ≤ 65536)
-begins t = let s = start t in (chunk-start (shape .mc) (s .args .m) (t .before .loop .i) (turn t), s .pre .0 .readable .modest .m-max)
+-- the chunk begins in C
+first : (t : tie.In-loop Inv-loop μ-loop) → Reachable (start t .args .lc) (t .before .loop .i * shape .mc) 0
+first t = rows-reached (start t .pre .0 .readable) (shape .mc) (t .before .loop .i) (turn t)
 
--- it is not empty, ends in the matrix, and is no longer than the longest
-span : (l : tie.After-chunk-len Inv-loop μ-loop) → let a = start (l .before) .args in let r = l .chunk-len .result in
-    (0 < r) × (l .before .before .loop .i * shape .mc + r ≤ a .m) × (r ≤ min (a .m) (shape .mc))
-span l = let m = start (l .before) .args .m in let i = l .before .before .loop .i in (
-  omega (arith, l .chunk-len .ensures, chunk-some (shape .mc) m i (omega arith) (turn (l .before))),
-  omega (arith, l .chunk-len .ensures, chunk-inside (shape .mc) m i (turn (l .before))),
-  omega (arith, l .chunk-len .ensures, turn-least (shape .mc) m i),
-)
-
--- its panels fit in front
+-- its panels fit in front of asize
 fits : (l : tie.After-chunk-len Inv-loop μ-loop) → let a = start (l .before) .args in chunks (shape .mr) (l .chunk-len .result) * (a .kc * complexPacking .floats (shape .mr)) ≤ a .asize
-fits l = front-fits (start (l .before) .pre .1 .1) (omega arith) (l .chunk-len .result) (span l .2)
+fits l = front-fits (start (l .before) .pre .1 .1) (omega arith) (l .chunk-len .result) (turn-most (shape .mc) (start (l .before) .args .m) (l .before .before .loop .i) (l .chunk-len .ensures))
 
 -- the turn in which A was packed
 abbrev chunk : tie.After-pack Inv-loop μ-loop → tie.After-chunk-len Inv-loop μ-loop
@@ -85,26 +77,23 @@ chunk-len-requires : tie.Need-chunk-len-requires Inv-loop μ-loop
 chunk-len-requires c κs = turn c
 
 mul-part : tie.Need-mul-part Inv-loop μ-loop
-mul-part c = omega (arith, begins (c .before))
+mul-part c = omega (arith, first (c .before) .i-max)
 
 part-requires : tie.Need-part-requires Inv-loop μ-loop
-part-requires c κs = let t = c .before in let s = start t in
-    reached (s .pre .1 .0) (t .before .loop .i * shape .mc) 0 (begins t .0) (s .pre .1 .0 .n-some)
+part-requires c κs = let t = c .before in rows-reached (start t .pre .1 .0) (shape .mc) (t .before .loop .i) (turn t)
 
 mul-part-2 : tie.Need-mul-part-2 Inv-loop μ-loop
-mul-part-2 c = omega (arith, begins (c .before .before))
+mul-part-2 c = omega (arith, first (c .before .before) .i-max)
 
 part-requires-2 : tie.Need-part-requires-2 Inv-loop μ-loop
-part-requires-2 c κs = let t = c .before .before in let s = start t in
-    reached (s .pre .0 .readable) (t .before .loop .i * shape .mc) 0 (begins t .0) (s .pre .0 .readable .n-some)
+part-requires-2 c κs = first (c .before .before)
 
 pack-requires : tie.Need-pack-requires Inv-loop μ-loop
 pack-requires c κs =
     let l = c .before .before .before in
     let t = l .before in
     let s = start t in (
-      readable-at (c .before .before .part .ensures)
-          (readable-part (s .pre .1 .0) (t .before .loop .i * shape .mc) 0 (l .chunk-len .result) (s .args .kc) (span l .1) (omega arith) (span l .0) (s .pre .1 .0 .n-some)),
+      rows-read (s .pre .1 .0) (shape .mc) (t .before .loop .i) (turn t) (l .chunk-len .ensures) (c .before .before .part .ensures),
       (omega (arith, fits l, s .pre .1 .1 .rest, t .before .loop .inv .3 .same-length), omega arith, omega arith),
     )
 
@@ -130,14 +119,11 @@ part-gemm-packed-end c = omega (arith, room (c .before .before .before .before))
 gemm-packed-requires : tie.Need-gemm-packed-requires Inv-loop μ-loop
 gemm-packed-requires c κs =
     let k = c .before .before .before .before .before .before in
-    let l = chunk k in
-    let t = l .before in
-    let s = start t in
-    let a = s .args in (
-      writable-at (k .before .before .part2 .ensures) (ap (λ (z : ℕ). view .count z) (t .before .loop .inv .2))
-          (writable-part (s .pre .0) (t .before .loop .i * shape .mc) 0 (l .chunk-len .result) (a .n) (span l .1) (omega arith) (span l .0) (s .pre .0 .readable .n-some)),
+    let t = chunk k .before in
+    let a = start t .args in (
+      rows-written (start t .pre .0) (shape .mc) (t .before .loop .i) (turn t) (chunk k .chunk-len .ensures) (k .before .before .part2 .ensures) (ap (λ (z : ℕ). view .count z) (t .before .loop .inv .2)),
       (
-        omega (arith, fits l, length-take-le (a .asize) (k .pack .last .0) (omega (arith, room k))),
+        omega (arith, fits (chunk k), length-take-le (a .asize) (k .pack .last .0) (omega (arith, room k))),
         rest-long (k .pack .last .0) (a .asize) (chunks (shape .nr) (a .n) * (a .kc * complexPacking .floats (shape .nr))) (room k),
       ),
     )
@@ -148,23 +134,28 @@ add-i c = search needs
 loop-less : tie.Need-loop-less Inv-loop μ-loop
 loop-less c = search needs
 
+-- what gemm_packed made of the chunk's rows
+settles : (k : tie.After-pack Inv-loop μ-loop) (i j : ℕ) → i < chunk k .chunk-len .result → (x : ar .E) → let a = owner k .args in let Q = k .pack .last .0 in
+    settled ar (fateOf (a .fate)) (asComplex (a .alpha)) (unpacked complexPacking (take (a .asize) Q) (shape .mr) (a .kc))
+    (unpacked complexPacking (take (length Q - a .asize) (drop (a .asize) Q)) (shape .nr) (a .kc)) (a .kc) i j x
+    ≡ settled ar (fateOf (a .fate)) (asComplex (a .alpha)) (elem view (now (a .a)) (a .la)) (unpacked complexPacking (drop (a .asize) (now (a .pack))) (shape .nr) (a .kc)) (a .kc)
+    (chunk k .before .before .loop .i * shape .mc + i) j x
+settles k i j h x = let t = chunk k .before in let a = owner k .args in let lp = t .before .loop in
+    chunk-rows ar view complex-packing (shape .mr) (shape .nr) (omega arith) (fateOf (a .fate)) (asComplex (a .alpha)) (a .kc) (now (a .a)) (now (a .pack)) (a .asize) (lp .i * shape .mc)
+    (chunk k .chunk-len .result) (owner k .pre .1 .0) (chunk-start (shape .mc) (a .m) (lp .i) (turn t)) (k .before .before .before .part .ensures) (lp .inv .3) (kept k) (k .pack .ensures)
+    (fits (chunk k)) i j h x
+
 loop-again : tie.Need-loop-again Inv-loop μ-loop
 loop-again c =
     let k = c .before .before .before .before .before .before .before .before .before in
-    let l = chunk k in
-    let t = l .before in
-    let s = start t in
-    let a = s .args in
+    let t = chunk k .before in
     let lp = t .before .loop in (
       omega (arith, t .loop-test .taken),
       lp .inv .1,
       search needs,
       kept-then (lp .inv .3) (kept k),
-      rows-turn complex-lawful (s .pre .0) (shape .mc) (lp .i) (turn t) (l .chunk-len .ensures) (k .before .before .part2 .ensures)
-          (λ i j hi hj x. chunk-rows ar view complex-packing (shape .mr) (shape .nr) (omega arith) (fateOf (a .fate)) (asComplex (a .alpha)) (a .kc) (now (a .a)) (now (a .pack)) (a .asize) (lp .i * shape .mc)
-          (l .chunk-len .result) (s .pre .1 .0) (begins t .0) (k .before .before .before .part .ensures) (lp .inv .3) (kept k) (k .pack .ensures) (fits l) i j hi x)
-          (lp .inv .4)
-          (c .before .before .gemm-packed .ensures),
+      rows-turn complex-lawful (start t .pre .0) (shape .mc) (lp .i) (turn t) (chunk k .chunk-len .ensures) (k .before .before .part2 .ensures) (λ i j hi hj x. settles k i j hi x)
+          (lp .inv .4) (c .before .before .gemm-packed .ensures),
     )
 
 same-length : tie.Need-same-length Inv-loop μ-loop

@@ -11,12 +11,12 @@ use Rattle.element.specs.Complex64.{arith as ar, view, asComplex, shape, fateOf
 use Rattle.element.specs.Slice.{Updated, Block}
 use Rattle.element.specs.ViewLaws.{complex-lawful}
 use Rattle.layout.specs.Place.{indexOf}
-use Rattle.layout.specs.ChunkLaws.{chunk-start, chunk-some, chunk-max, chunk-inside}
-use Rattle.layout.specs.PartLaws.{reached, writable-part, writable-at}
+use Rattle.layout.specs.Operands.{Reachable}
 use Rattle.loops.specs.Panels.{complexPacking, unpacked}
 use Rattle.loops.specs.PanelLaws.{next-fits, rest-long}
 use Rattle.loops.specs.Work.{settled}
 use Rattle.loops.specs.LoopLaws.{in-columns, columns-start, columns-turn, columns-end}
+use Rattle.loops.specs.TurnLaws.{columns-reached, columns-written, turn-most}
 use borrow.Author.Needs.{needs}
 use Rattle.zgemm.proofs.packed.gemm_packed.Statement.{statement}
 use Rattle.zgemm.proofs.packed.gemm_packed.Tie as tie
@@ -39,11 +39,12 @@ start t = entry (t .before .before)
 turn : (t : tie.In-loop Inv-loop μ-loop) → t .before .loop .j < chunks (shape .nr) (start t .args .n)
 turn t = rw (t .before .loop .inv .1) at (t .loop-test .taken)
 
--- the panel is inside b, and the columns begin in C
-room : (t : tie.In-loop Inv-loop μ-loop) → let a = start t .args in let p = a .kc * complexPacking .floats (shape .nr) in
-    (t .before .loop .j * p + p ≤ length (now (a .b))) × (t .before .loop .j * shape .nr < a .n) × (a .n ≤ 65536)
-room t = let s = start t in let a = s .args in
-    (omega (arith, s .pre .1 .1, next-fits (a .kc * complexPacking .floats (shape .nr)) (turn t)), chunk-start (shape .nr) (a .n) (t .before .loop .j) (turn t), s .pre .0 .readable .modest .n-max)
+-- the columns begin in C, and the panel is inside b
+first : (t : tie.In-loop Inv-loop μ-loop) → Reachable (start t .args .lc) 0 (t .before .loop .j * shape .nr)
+first t = columns-reached (start t .pre .0 .readable) (shape .nr) (t .before .loop .j) (turn t)
+
+room : (t : tie.In-loop Inv-loop μ-loop) → let a = start t .args in let p = a .kc * complexPacking .floats (shape .nr) in t .before .loop .j * p + p ≤ length (now (a .b))
+room t = let s = start t in omega (arith, s .pre .1 .1, next-fits (s .args .kc * complexPacking .floats (shape .nr)) (turn t))
 
 chunk-count-requires : tie.Need-chunk-count-requires Inv-loop μ-loop
 chunk-count-requires c κs = search needs
@@ -64,11 +65,10 @@ mul-at-2 : tie.Need-mul-at-2 Inv-loop μ-loop
 mul-at-2 c = omega (arith, room (c .before))
 
 mul-part : tie.Need-mul-part Inv-loop μ-loop
-mul-part c = omega (arith, room (c .before))
+mul-part c = omega (arith, first (c .before) .j-max)
 
 part-requires : tie.Need-part-requires Inv-loop μ-loop
-part-requires c κs = let t = c .before in let s = start t in
-    reached (s .pre .0 .readable) 0 (t .before .loop .j * shape .nr) (s .pre .0 .readable .m-some) (room t .1)
+part-requires c κs = first (c .before)
 
 mul-tile-column : tie.Need-mul-tile-column Inv-loop μ-loop
 mul-tile-column c = omega (arith, room (c .before .before))
@@ -85,19 +85,15 @@ part-tile-column-end c = omega (arith, room (c .before .before))
 tile-column-requires : tie.Need-tile-column-requires Inv-loop μ-loop
 tile-column-requires c κs =
     let p = c .before .before in
-    let l = p .before in
-    let t = l .before in
+    let t = p .before .before in
     let s = start t in
     let a = s .args in
-    let k = t .before .loop in
-    let e = l .chunk-len .ensures in (
-      writable-at (p .part .ensures) (ap (λ (z : ℕ). view .count z) (k .inv .2))
-          (writable-part (s .pre .0) 0 (k .j * shape .nr) (a .m) (l .chunk-len .result) (omega arith) (omega (arith, e, chunk-inside (shape .nr) (a .n) (k .j) (turn t)))
-          (s .pre .0 .readable .m-some) (omega (arith, e, chunk-some (shape .nr) (a .n) (k .j) (omega arith) (turn t)))),
+    let k = t .before .loop in (
+      columns-written (s .pre .0) (shape .nr) (k .j) (turn t) (p .before .chunk-len .ensures) (p .part .ensures) (ap (λ (z : ℕ). view .count z) (k .inv .2)),
       (
-        omega (arith, e, chunk-max (shape .nr) (a .n) (k .j)),
+        omega (arith, turn-most (shape .nr) (a .n) (k .j) (p .before .chunk-len .ensures)),
         s .pre .1 .0,
-        rest-long (now (a .b)) (k .j * (a .kc * complexPacking .floats (shape .nr))) (a .kc * complexPacking .floats (shape .nr)) (room t .0),
+        rest-long (now (a .b)) (k .j * (a .kc * complexPacking .floats (shape .nr))) (a .kc * complexPacking .floats (shape .nr)) (room t),
       ),
     )
 
@@ -110,19 +106,15 @@ loop-less c = search needs
 loop-again : tie.Need-loop-again Inv-loop μ-loop
 loop-again c =
     let p = c .before .before .before .before .before in
-    let l = p .before in
-    let t = l .before in
-    let s = start t in
-    let a = s .args in
+    let t = p .before .before in
+    let a = start t .args in
     let k = t .before .loop in (
       omega arith,
       k .inv .1,
       search needs,
-      columns-turn complex-lawful (s .pre .0) (shape .nr) (k .j) (turn t) (l .chunk-len .ensures) (p .part .ensures)
+      columns-turn complex-lawful (start t .pre .0) (shape .nr) (k .j) (turn t) (p .before .chunk-len .ensures) (p .part .ensures)
           (λ i j hi hj x. in-columns ar complexPacking (fateOf (a .fate)) (asComplex (a .alpha)) (a .kc) (now (a .b)) (unpacked complexPacking (now (a .a)) (shape .mr) (a .kc)) (shape .nr) (k .j) i j
-          (omega (arith, hj, l .chunk-len .ensures, chunk-max (shape .nr) (a .n) (k .j))) x)
-          (k .inv .3)
-          (c .before .before .tile-column .ensures),
+          (omega (arith, hj, turn-most (shape .nr) (a .n) (k .j) (p .before .chunk-len .ensures))) x) (k .inv .3) (c .before .before .tile-column .ensures),
     )
 
 same-length : tie.Need-same-length Inv-loop μ-loop

@@ -11,12 +11,12 @@ use Rattle.element.specs.Complex64.{arith as ar, view, asComplex, shape, fateOf
 use Rattle.element.specs.Slice.{Updated, Block}
 use Rattle.element.specs.ViewLaws.{complex-lawful}
 use Rattle.layout.specs.Place.{indexOf}
-use Rattle.layout.specs.ChunkLaws.{chunk-start, chunk-some, chunk-max, chunk-inside}
-use Rattle.layout.specs.PartLaws.{reached, writable-part, writable-at}
+use Rattle.layout.specs.Operands.{Reachable}
 use Rattle.loops.specs.Panels.{complexPacking, unpacked}
 use Rattle.loops.specs.PanelLaws.{next-fits, rest-long}
 use Rattle.loops.specs.Work.{settled}
 use Rattle.loops.specs.LoopLaws.{in-rows, rows-start, rows-turn, rows-end}
+use Rattle.loops.specs.TurnLaws.{rows-reached, rows-written, turn-most}
 use borrow.Author.Needs.{needs}
 use Rattle.zgemm.proofs.packed.tile_column.Statement.{statement}
 use Rattle.zgemm.proofs.packed.tile_column.Tie as tie
@@ -39,11 +39,12 @@ start t = entry (t .before .before)
 turn : (t : tie.In-loop Inv-loop μ-loop) → t .before .loop .i < chunks (shape .mr) (start t .args .m)
 turn t = rw (t .before .loop .inv .1) at (t .loop-test .taken)
 
--- the panel is inside a, and the rows begin in C
-room : (t : tie.In-loop Inv-loop μ-loop) → let a = start t .args in let p = a .kc * complexPacking .floats (shape .mr) in
-    (t .before .loop .i * p + p ≤ length (now (a .a))) × (t .before .loop .i * shape .mr < a .m) × (a .m ≤ 65536)
-room t = let s = start t in let a = s .args in
-    (omega (arith, s .pre .1 .1, next-fits (a .kc * complexPacking .floats (shape .mr)) (turn t)), chunk-start (shape .mr) (a .m) (t .before .loop .i) (turn t), s .pre .0 .readable .modest .m-max)
+-- the rows begin in C, and the panel is inside a
+first : (t : tie.In-loop Inv-loop μ-loop) → Reachable (start t .args .lc) (t .before .loop .i * shape .mr) 0
+first t = rows-reached (start t .pre .0 .readable) (shape .mr) (t .before .loop .i) (turn t)
+
+room : (t : tie.In-loop Inv-loop μ-loop) → let a = start t .args in let p = a .kc * complexPacking .floats (shape .mr) in t .before .loop .i * p + p ≤ length (now (a .a))
+room t = let s = start t in omega (arith, s .pre .1 .1, next-fits (s .args .kc * complexPacking .floats (shape .mr)) (turn t))
 
 chunk-count-requires : tie.Need-chunk-count-requires Inv-loop μ-loop
 chunk-count-requires c κs = search needs
@@ -64,11 +65,10 @@ mul-at-2 : tie.Need-mul-at-2 Inv-loop μ-loop
 mul-at-2 c = omega (arith, room (c .before))
 
 mul-part : tie.Need-mul-part Inv-loop μ-loop
-mul-part c = omega (arith, room (c .before))
+mul-part c = omega (arith, first (c .before) .i-max)
 
 part-requires : tie.Need-part-requires Inv-loop μ-loop
-part-requires c κs = let t = c .before in let s = start t in
-    reached (s .pre .0 .readable) (t .before .loop .i * shape .mr) 0 (room t .1) (s .pre .0 .readable .n-some)
+part-requires c κs = first (c .before)
 
 mul-masked-kernel : tie.Need-mul-masked-kernel Inv-loop μ-loop
 mul-masked-kernel c = omega (arith, room (c .before .before))
@@ -85,18 +85,14 @@ part-masked-kernel-end c = omega (arith, room (c .before .before))
 masked-kernel-requires : tie.Need-masked-kernel-requires Inv-loop μ-loop
 masked-kernel-requires c κs =
     let p = c .before .before in
-    let l = p .before in
-    let t = l .before in
+    let t = p .before .before in
     let s = start t in
     let a = s .args in
-    let k = t .before .loop in
-    let e = l .chunk-len .ensures in (
-      writable-at (p .part .ensures) (ap (λ (z : ℕ). view .count z) (k .inv .2))
-          (writable-part (s .pre .0) (k .i * shape .mr) 0 (l .chunk-len .result) (a .cols) (omega (arith, e, chunk-inside (shape .mr) (a .m) (k .i) (turn t))) (omega arith)
-          (omega (arith, e, chunk-some (shape .mr) (a .m) (k .i) (omega arith) (turn t))) (s .pre .0 .readable .n-some)),
+    let k = t .before .loop in (
+      rows-written (s .pre .0) (shape .mr) (k .i) (turn t) (p .before .chunk-len .ensures) (p .part .ensures) (ap (λ (z : ℕ). view .count z) (k .inv .2)),
       (
-        (omega (arith, e, chunk-max (shape .mr) (a .m) (k .i)), s .pre .1 .0),
-        (rest-long (now (a .a)) (k .i * (a .kc * complexPacking .floats (shape .mr))) (a .kc * complexPacking .floats (shape .mr)) (room t .0), s .pre .1 .2),
+        (omega (arith, turn-most (shape .mr) (a .m) (k .i) (p .before .chunk-len .ensures)), s .pre .1 .0),
+        (rest-long (now (a .a)) (k .i * (a .kc * complexPacking .floats (shape .mr))) (a .kc * complexPacking .floats (shape .mr)) (room t), s .pre .1 .2),
       ),
     )
 
@@ -109,19 +105,15 @@ loop-less c = search needs
 loop-again : tie.Need-loop-again Inv-loop μ-loop
 loop-again c =
     let p = c .before .before .before .before .before in
-    let l = p .before in
-    let t = l .before in
-    let s = start t in
-    let a = s .args in
+    let t = p .before .before in
+    let a = start t .args in
     let k = t .before .loop in (
       omega arith,
       k .inv .1,
       search needs,
-      rows-turn complex-lawful (s .pre .0) (shape .mr) (k .i) (turn t) (l .chunk-len .ensures) (p .part .ensures)
+      rows-turn complex-lawful (start t .pre .0) (shape .mr) (k .i) (turn t) (p .before .chunk-len .ensures) (p .part .ensures)
           (λ i j hi hj x. in-rows ar complexPacking (fateOf (a .fate)) (asComplex (a .alpha)) (a .kc) (now (a .a)) (complexPacking .lane (now (a .b)) (shape .nr)) (shape .mr) (k .i) i j
-          (omega (arith, hi, l .chunk-len .ensures, chunk-max (shape .mr) (a .m) (k .i))) x)
-          (k .inv .3)
-          (c .before .before .masked-kernel .ensures),
+          (omega (arith, hi, turn-most (shape .mr) (a .m) (k .i) (p .before .chunk-len .ensures))) x) (k .inv .3) (c .before .before .masked-kernel .ensures),
     )
 
 same-length : tie.Need-same-length Inv-loop μ-loop

@@ -1,5 +1,5 @@
 -- `Kind::shape` meets its contract: each arm is its case of `shapeOf`. Assumes nothing.
-use mathlib.Core.Path.{_≡_, sym, ap}
+use mathlib.Core.Path.{sym, ap}
 use borrow.Author.Needs.{needs}
 use Rattle.element.specs.Kinds.{shapeOf}
 use Rattle.element.specs.declared.kind.Kind.{Kind}
