@@ -1,11 +1,12 @@
 // Derived from crates/sgemm_kernel/src/masked.rt by tools/derive: edit that.
 // A tile into C: what is past its rows and columns is dropped. Rust: `masked_kernel` and `c_to_masked_ab_beta_c`, gemm.rs.
 ghost use Prim.Native.Nat.{_*_, _<_, _≤_};
+ghost use lib.Ieee.{nan};
 ghost use lib.ListN.{length, getD};
 ghost use Rattle.element.specs.Element.{put};
 ghost use Rattle.element.specs.Slice.{Updated, Block};
 ghost use Rattle.element.specs.SliceLaws.{Region};
-ghost use Rattle.element.specs.Real64.{arith, view, held, shape, fateOf};
+ghost use Rattle.element.specs.Real64.{arith, view, shape, fateOf};
 ghost use Rattle.layout.specs.Place.{indexOf};
 ghost use Rattle.layout.specs.Operands.{Writable};
 ghost use Rattle.loops.specs.Panels.{realPacking};
@@ -42,7 +43,7 @@ fn put_one(
 fn put_row(ab: Row, fate: Fate, c: &mut [Elem], lc: Operand, rows: usize, cols: usize, i: usize)
     requires { ⌜ Writable rows cols lc (view .count (length (now c))) ⌝ }
     requires { ⌜ (i < rows) × (cols ≤ shape .nr) ⌝ }
-    ensures { λ _. ⌜ Updated view (indexOf lc) (Region i 1 0 cols) (λ i j. put arith (fateOf fate) (getD ab j (held .blank))) (now (c .entry)) (now (c .exit)) ⌝ }
+    ensures { λ _. ⌜ Updated view (indexOf lc) (Region i 1 0 cols) (λ i j. put arith (fateOf fate) (getD ab j nan)) (now (c .entry)) (now (c .exit)) ⌝ }
 {
     let mut j = 0usize;
     while j < cols {
@@ -63,7 +64,7 @@ fn c_to_masked_ab_beta_c(
 )
     requires { ⌜ Writable rows cols lc (view .count (length (now c))) ⌝ }
     requires { ⌜ (rows ≤ shape .mr) × (cols ≤ shape .nr) ⌝ }
-    ensures { λ _. ⌜ Updated view (indexOf lc) (Block rows cols) (λ i j. put arith (fateOf fate) (cell (held .blank) ab i j)) (now (c .entry)) (now (c .exit)) ⌝ }
+    ensures { λ _. ⌜ Updated view (indexOf lc) (Block rows cols) (λ i j. put arith (fateOf fate) (cell ab i j)) (now (c .entry)) (now (c .exit)) ⌝ }
 {
     let mut i = 0usize;
     while i < rows {
@@ -90,6 +91,6 @@ pub fn masked_kernel(
     requires { ⌜ (kc * realPacking .floats (shape .mr) ≤ length (now a)) × (kc * realPacking .floats (shape .nr) ≤ length (now b)) ⌝ }
     ensures { λ _. ⌜ Updated view (indexOf lc) (Block rows cols) (settled arith (fateOf fate) alpha (realPacking .lane (now (a .entry)) (shape .mr)) (realPacking .lane (now (b .entry)) (shape .nr)) kc) (now (c .entry)) (now (c .exit)) ⌝ }
 {
-    let ab = kernel(kc, alpha, a, b);
+    let ab = kernel(kc, alpha, a, b, rows);
     c_to_masked_ab_beta_c(ab, fate, c, lc, rows, cols);
 }

@@ -1,9 +1,7 @@
 -- The kind complex f32 as its code has it: arithmetic, view, chunks and tile, its numbers, and its choice for old C as the definition's. Definitions only.
-use mathlib.Core.Path.{refl}
-use lib.Ieee.{nan, binary32}
+use lib.Ieee.{binary32}
 use Rattle.element.specs.Element.{Arith, Fate, overwrite, times, Complex, complex}
 use Rattle.element.specs.Slice.{View, complexView}
-use Rattle.element.specs.Held.{Held}
 use Rattle.element.specs.Kinds.{shapeOf}
 use Rattle.element.specs.declared.kind.Shape.{Shape}
 use Rattle.element.specs.declared.kind.Kind.{Kind}
@@ -26,9 +24,6 @@ shape = shapeOf C32
 
 abbrev pub asComplex : Complex32 → Complex
 asComplex z = record { re = z .re; im = z .im }
-
-abbrev pub held : Held arith Complex32
-held = record { of = λ z. record { re = z .re; im = z .im }; to = asComplex; blank = record { re = nan; im = nan }; back = λ e. refl }
 
 abbrev pub fateOf : code.Fate → Fate Complex
 fateOf Overwrite = overwrite

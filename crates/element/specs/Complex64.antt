@@ -1,10 +1,8 @@
 -- Derived from crates/element/specs/Complex32.antt by tools/derive: edit that.
 -- The kind complex f64 as its code has it: arithmetic, view, chunks and tile, its numbers, and its choice for old C as the definition's. Definitions only.
-use mathlib.Core.Path.{refl}
-use lib.Ieee.{nan, binary64}
+use lib.Ieee.{binary64}
 use Rattle.element.specs.Element.{Arith, Fate, overwrite, times, Complex, complex}
 use Rattle.element.specs.Slice.{View, complexView}
-use Rattle.element.specs.Held.{Held}
 use Rattle.element.specs.Kinds.{shapeOf}
 use Rattle.element.specs.declared.kind.Shape.{Shape}
 use Rattle.element.specs.declared.kind.Kind.{Kind}
@@ -27,9 +25,6 @@ shape = shapeOf C64
 
 abbrev pub asComplex : Complex64 → Complex
 asComplex z = record { re = z .re; im = z .im }
-
-abbrev pub held : Held arith Complex64
-held = record { of = λ z. record { re = z .re; im = z .im }; to = asComplex; blank = record { re = nan; im = nan }; back = λ e. refl }
 
 abbrev pub fateOf : code.Fate → Fate Complex
 fateOf Overwrite = overwrite

@@ -2,7 +2,6 @@ pub mod Element
 pub mod Slice
 pub mod Kinds
 pub mod Examples
-pub mod Held
 pub mod Real32
 pub mod Real64
 pub mod Complex32

@@ -1,9 +1,9 @@
 pub mod Tiles
-pub mod TileLaws
 pub mod Panels
 pub mod PanelLaws
 pub mod NeighbourLaws
 pub mod Work
+pub mod TileLaws
 pub mod PutLaws
 pub mod LoopLaws
 pub mod TurnLaws

@@ -1,25 +1,22 @@
--- Laws of tables, tiles and arrays filled in order, for every kind and every tile size. Assumes nothing.
+-- Laws of tables, of columns that are summed, and of arrays filled in order, for every kind and every tile size. Assumes nothing.
 use Prim.Native.Nat.{ℕ, zero, suc, _+_, _<_, _≤_}
 use mathlib.Core.Path.{_≡_, refl, sym, ap, _∙_}
-use mathlib.Core.List.{List, []}
+use mathlib.Core.List.{List}
 use native.Mathlib.Nat.{not-suc-le-zero, le-of-suc-le-suc, zero-add}
 use native.Mathlib.Omega.{arith}
 use native.Mathlib.Numerals.{add-one}
 use lib.ListN.{length, getD, set, length-set}
 use lib.Seq.{ext-getD, getD-set-same, getD-set-other}
+use lib.Ieee.{Float, nan}
 use borrow.Author.Count.{below-more}
 use Rattle.element.specs.Element.{Arith, chunkSum}
-use Rattle.element.specs.Held.{Held}
-use Rattle.loops.specs.Tiles.{tab, grid, cell, stepped, tileTo, Filled}
+use Rattle.loops.specs.Tiles.{tab, Column, columns, stepped, summed, Filled}
+use Rattle.loops.specs.Work.{part}
 
 pub getD-tab : {A : Type 0} (n : ℕ) (g : ℕ → A) (i : ℕ) (z : A) → i < n → getD (tab n g) i z ≡ g i
 getD-tab zero g i z l = absurd (not-suc-le-zero l)
 getD-tab (suc n) g zero z l = refl
 getD-tab (suc n) g (suc i) z l = getD-tab n (λ k. g (suc k)) i z (le-of-suc-le-suc l)
-
--- the same, of a list that is known to be a table
-pub tab-read : {A : Type 0} (n : ℕ) (g : ℕ → A) (z : A) {l : List A} → l ≡ tab n g → (i : ℕ) → i < n → getD l i z ≡ g i
-tab-read {A} n g z e i h = ap (λ (s : List A). getD s i z) e ∙ getD-tab n g i z h
 
 pub length-tab : {A : Type 0} (n : ℕ) (g : ℕ → A) → length (tab n g) ≡ n
 length-tab zero g = refl
@@ -29,33 +26,51 @@ pub tab-ext : {A : Type 0} (n : ℕ) (g h : ℕ → A) → ((i : ℕ) → i < n 
 tab-ext zero g h e = refl
 tab-ext (suc n) g h e = rw (e 0 (omega arith), tab-ext n (λ k. g (suc k)) (λ k. h (suc k)) (λ k l. e (suc k) (omega arith)))
 
-pub grid-ext : {A : Type 0} (h w : ℕ) (g k : ℕ → ℕ → A) → ((i j : ℕ) → i < h → j < w → g i j ≡ k i j) → grid h w g ≡ grid h w k
-grid-ext h w g k e = tab-ext h _ _ (λ i l. tab-ext w _ _ (λ j m. e i j l m))
+-- a column of floats
+abbrev pub floatColumn : Column Float (List Float)
+floatColumn = record {
+  blank = tab 0 (λ i. nan);
+  of = λ h g. tab h g;
+  at = λ x i. getD x i nan;
+  back = λ h g i l. getD-tab h g i nan l;
+  ext = λ h g k e. tab-ext h g k e;
+}
 
-pub cell-grid : {A : Type 0} (z : A) (h w : ℕ) (g : ℕ → ℕ → A) (i j : ℕ) → i < h → j < w → cell z (grid h w g) i j ≡ g i j
-cell-grid {A} z h w g i j l m = ap (λ (r : List A). getD r j z) (getD-tab h (λ i. tab w (λ j. g i j)) i [] l) ∙ getD-tab w (λ j. g i j) j z m
+-- ---- columns that are summed
 
-module _ {X : Type 0} (ar : Arith) (v : Held ar X) (h w : ℕ) (a b : ℕ → ℕ → ar .E) where
-  -- no step yet
-  pub tile-none : {t : List (List X)} → t ≡ grid h w (λ i j. v .of (ar .nought)) → t ≡ tileTo ar v h w a b 0
-  unfolding chunkSum tileTo
-  tile-none e = e
+module _ {X : Type 0} (ar : Arith) (held : Column (ar .E) X) (h w : ℕ) where
+  pub columns-ext : (g k : ℕ → ℕ → ar .E) → ((i j : ℕ) → i < h → j < w → g i j ≡ k i j) → columns ar held h w g ≡ columns ar held h w k
+  columns-ext g k e = tab-ext w _ _ (λ j m. held .ext h _ _ (λ i l. e i j l m))
 
-  -- one step more
-  pub tile-more : (p : ℕ) {t r : List (List X)} (x y : ℕ → ar .E)
-      → t ≡ tileTo ar v h w a b p → ((i : ℕ) → i < h → x i ≡ a i p) → ((j : ℕ) → j < w → y j ≡ b j p)
-      → r ≡ stepped ar v h w t x y → r ≡ tileTo ar v h w a b (p + 1)
-  unfolding chunkSum stepped tileTo
-  tile-more p {t} {r} x y e u s q =
-      q ∙ rw (add-one p) (grid-ext h w _ _ (λ i j l m. λ k. v .of (ar .step
-      ((ap (λ (g : List (List X)). v .to (cell (v .blank) g i j)) e ∙ ap (λ (c : X). v .to c) (cell-grid (v .blank) h w _ i j l m) ∙ v .back _) k)
-      ((u i l ∙ ap (λ (d : ℕ). a i d) (sym (zero-add p))) k)
-      ((s j m ∙ ap (λ (d : ℕ). b j d) (sym (zero-add p))) k))))
+  -- the number in row i of column j
+  pub columns-at : (g : ℕ → ℕ → ar .E) {t : List X} (i j : ℕ) → i < h → j < w → t ≡ columns ar held h w g → held .at (getD t j (held .blank)) i ≡ g i j
+  columns-at g i j l m e =
+      ap (λ (c : List X). held .at (getD c j (held .blank)) i) e
+      ∙ ap (λ (x : X). held .at x i) (getD-tab w (λ j. held .of h (λ i. g i j)) j (held .blank) m) ∙ held .back h (λ i. g i j) i l
 
-  -- reading
-  pub tile-at : (n : ℕ) {t : List (List X)} (i j : ℕ) → i < h → j < w → t ≡ tileTo ar v h w a b n → cell (v .blank) t i j ≡ v .of (chunkSum ar (a i) (b j) 0 n)
-  unfolding tileTo
-  tile-at n i j l m e = ap (λ (g : List (List X)). cell (v .blank) g i j) e ∙ cell-grid (v .blank) h w _ i j l m
+  module _ (a b : ℕ → ℕ → ar .E) where
+    -- no step yet
+    pub summed-none : {t : List X} → t ≡ columns ar held h w (λ i j. ar .nought) → t ≡ summed ar held h w a b 0
+    unfolding chunkSum summed
+    summed-none e = e
+
+    -- one step more
+    pub summed-more : (p : ℕ) {t r : List X} (x y : ℕ → ar .E) → t ≡ summed ar held h w a b p
+        → ((i : ℕ) → i < h → x i ≡ a i p) → ((j : ℕ) → j < w → y j ≡ b j p)
+        → r ≡ stepped ar held h w t x y → r ≡ summed ar held h w a b (p + 1)
+    unfolding chunkSum stepped summed
+    summed-more p x y e u s q =
+        q ∙ rw (add-one p) (columns-ext _ _ (λ i j l m. λ k. ar .step
+        (columns-at (λ i j. chunkSum ar (a i) (b j) 0 p) i j l m e k)
+        ((u i l ∙ ap (λ (d : ℕ). a i d) (sym (zero-add p))) k)
+        ((s j m ∙ ap (λ (d : ℕ). b j d) (sym (zero-add p))) k)))
+
+    -- alpha times the sums
+    pub summed-part : (kc : ℕ) (alpha : ar .E) {t r : List X} → t ≡ summed ar held h w a b kc
+        → r ≡ columns ar held h w (λ i j. ar .mul alpha (held .at (getD t j (held .blank)) i)) → r ≡ columns ar held h w (part ar alpha a b kc)
+    unfolding summed
+    summed-part kc alpha e u =
+        u ∙ columns-ext _ _ (λ i j l m. ap (λ (z : ar .E). ar .mul alpha z) (columns-at (λ i j. chunkSum ar (a i) (b j) 0 kc) i j l m e))
 
 -- ---- an array that a loop fills in order
 

@@ -1,4 +1,4 @@
--- `across_at` meets its contract: it reads the floats of a panel in order, the array is `Filled` below j. Assumes nothing.
+-- `across_at` meets its contract: below j the array holds the panel's floats from `at` on. Assumes nothing.
 use Prim.Native.Nat.{_+_, _-_}
 use mathlib.Core.Path.{refl}
 use lib.ListN.{getD}
@@ -11,7 +11,7 @@ use Rattle.cgemm_kernel.proofs.kernel.across_at.Statement.{statement}
 use Rattle.cgemm_kernel.proofs.kernel.across_at.Tie as tie
 
 abbrev Inv-loop : tie.InvT-loop
-Inv-loop b at y₀ j₀ y j = Filled nan (shape .nr) j (λ j. getD b (at + j) nan) y₀ y
+Inv-loop b at y₀ j₀ y j = Filled nan (shape .nr) j (λ k. getD b (at + k) nan) y₀ y
 
 abbrev μ-loop : tie.MeasureT-loop
 μ-loop b at y₀ j₀ y j = shape .nr - j

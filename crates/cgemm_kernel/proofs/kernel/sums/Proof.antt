@@ -1,25 +1,27 @@
--- `sums` meets its contract: t is the tile of the first p depth steps. Assumes nothing.
+-- `sums` meets its contract: after p turns the tile holds the sums of p depth steps. Assumes nothing.
 use Prim.Native.Nat.{_-_, _≤_}
 use mathlib.Core.Path.{_≡_, refl, ap, _∙_}
 use native.Mathlib.Omega.{arith}
 use lib.Ieee.{ofBits}
-use Rattle.element.specs.Complex32.{arith as ar, held, shape}
+use Rattle.element.specs.Complex32.{arith as kind, shape}
 use Rattle.loops.specs.Panels.{complexPacking}
-use Rattle.loops.specs.Tiles.{tileTo}
-use Rattle.loops.specs.TileLaws.{tile-none}
+use Rattle.loops.specs.Tiles.{summed}
+use Rattle.loops.specs.TileLaws.{summed-none}
+use Rattle.cgemm_kernel.specs.Parts.{held}
 use borrow.Author.Needs.{needs}
 use Rattle.cgemm_kernel.proofs.kernel.sums.Statement.{statement}
 use Rattle.cgemm_kernel.proofs.kernel.sums.Tie as tie
 
 abbrev Inv-loop : tie.InvT-loop
-Inv-loop kc a b t₀ p₀ t p = (p ≤ kc) × (t ≡ tileTo ar held (shape .mr) (shape .nr) (complexPacking .lane a (shape .mr)) (complexPacking .lane b (shape .nr)) p)
+Inv-loop kc a b t₀ p₀ t p =
+    (p ≤ kc) × (t ≡ summed kind held (shape .mr) (shape .nr) (complexPacking .lane a (shape .mr)) (complexPacking .lane b (shape .nr)) p)
 
 abbrev μ-loop : tie.MeasureT-loop
 μ-loop kc a b t₀ p₀ t p = kc - p
 
 loop-holds : tie.Need-loop-holds Inv-loop μ-loop
 unfolding ofBits
-loop-holds c = (omega arith, tile-none ar held (shape .mr) (shape .nr) _ _ refl)
+loop-holds c = (omega arith, summed-none kind held (shape .mr) (shape .nr) _ _ refl)
 
 next-requires : tie.Need-next-requires Inv-loop μ-loop
 next-requires c κs = search needs
@@ -34,7 +36,7 @@ loop-again : tie.Need-loop-again Inv-loop μ-loop
 loop-again c = (omega arith, c .next .ensures)
 
 returns : tie.Need-returns Inv-loop μ-loop
-returns c = c .before .loop .inv .1 ∙ ap (tileTo ar held (shape .mr) (shape .nr) _ _) (omega arith)
+returns c = c .before .loop .inv .1 ∙ ap (summed kind held (shape .mr) (shape .nr) _ _) (omega arith)
 
 pub sums-spec : {M : Type 1} → statement M
 sums-spec =

@@ -2,7 +2,8 @@
 -- `row_at` meets its contract: it reads the lanes of a panel in order, the array is `Filled` below j. Assumes nothing.
 use Prim.Native.Nat.{_-_}
 use mathlib.Core.Path.{refl}
-use Rattle.element.specs.Real64.{held, shape}
+use lib.Ieee.{nan}
+use Rattle.element.specs.Real64.{shape}
 use Rattle.loops.specs.Panels.{realPacking}
 use Rattle.loops.specs.Tiles.{Filled}
 use Rattle.loops.specs.TileLaws.{filled-none, filled-more, filled-all}
@@ -11,7 +12,7 @@ use Rattle.dgemm_kernel.proofs.kernel.row_at.Statement.{statement}
 use Rattle.dgemm_kernel.proofs.kernel.row_at.Tie as tie
 
 abbrev Inv-loop : tie.InvT-loop
-Inv-loop b p y₀ j₀ y j = Filled (held .blank) (shape .nr) j (λ j. realPacking .lane b (shape .nr) j p) y₀ y
+Inv-loop b p y₀ j₀ y j = Filled nan (shape .nr) j (λ j. realPacking .lane b (shape .nr) j p) y₀ y
 
 abbrev μ-loop : tie.MeasureT-loop
 μ-loop b p y₀ j₀ y j = shape .nr - j

@@ -5,19 +5,19 @@ use native.Mathlib.Omega.{arith}
 use lib.ListN.{length}
 use Rattle.element.specs.Element.{put}
 use Rattle.element.specs.Slice.{Updated, Block}
-use Rattle.element.specs.SliceLaws.{untouched}
+use Rattle.element.specs.SliceLaws.{untouched, agreeing}
 use Rattle.element.specs.ViewLaws.{real-lawful}
-use Rattle.element.specs.Real32.{arith as ar, view, held, fateOf}
+use Rattle.element.specs.Real32.{arith as ar, view, fateOf}
 use Rattle.layout.specs.Place.{indexOf}
 use Rattle.layout.specs.PartLaws.{writable-long}
 use Rattle.loops.specs.Tiles.{cell}
-use Rattle.loops.specs.PutLaws.{tile-next}
+use Rattle.loops.specs.PutLaws.{line-next}
 use borrow.Author.Needs.{needs}
 use Rattle.sgemm_kernel.proofs.masked.c_to_masked_ab_beta_c.Statement.{statement}
 use Rattle.sgemm_kernel.proofs.masked.c_to_masked_ab_beta_c.Tie as tie
 
 abbrev Inv-loop : tie.InvT-loop
-Inv-loop fate c₀ lc rows cols ab i₀ c i = (i ≤ rows) × (length c ≡ length c₀) × Updated view (indexOf lc) (Block i cols) (λ i j. put ar (fateOf fate) (cell (held .blank) ab i j)) c₀ c
+Inv-loop fate c₀ lc rows cols ab i₀ c i = (i ≤ rows) × (length c ≡ length c₀) × Updated view (indexOf lc) (Block i cols) (λ i j. put ar (fateOf fate) (cell ab i j)) c₀ c
 
 abbrev μ-loop : tie.MeasureT-loop
 μ-loop fate c₀ lc rows cols ab i₀ c i = rows - i
@@ -34,7 +34,7 @@ array-copy-out-row c = search needs
 put-row-requires : tie.Need-put-row-requires Inv-loop μ-loop
 put-row-requires c κs =
     let s = c .before .before .before .before .before in
-    (writable-long (ap (λ (z : ℕ). view .count z) (c .before .before .before .loop .inv .1)) (s .pre .0), (omega arith, omega arith))
+    (writable-long (c .before .before .before .loop .inv .1) (s .pre .0), (omega arith, omega arith))
 
 add-i : tie.Need-add-i Inv-loop μ-loop
 add-i c = search needs
@@ -46,7 +46,12 @@ loop-again : tie.Need-loop-again Inv-loop μ-loop
 loop-again c =
     let s = c .before .before .before .before .before .before .before .before in
     let k = c .before .before .before .before .before .before .loop in
-    (omega arith, search needs, tile-next real-lawful (s .pre .0) (held .blank) (put ar (fateOf (s .args .fate))) (k .i) (s .args .t1) (omega arith) refl (k .inv .2) (c .before .before .put-row .ensures))
+    let f = fateOf (s .args .fate) in (
+      omega arith,
+      search needs,
+      line-next real-lawful (s .pre .0) (λ i j. put ar f (cell (s .args .t1) i j)) (k .i) (omega arith) (k .inv .2)
+          (agreeing view (indexOf (s .args .lc)) (λ m l o x. let e : k .i ≡ m = omega arith in ap (λ (n : ℕ). put ar f (cell (s .args .t1) n l) x) e) (c .before .before .put-row .ensures)),
+    )
 
 same-length : tie.Need-same-length Inv-loop μ-loop
 same-length c = search needs

@@ -1,5 +1,5 @@
 -- Derived from crates/cgemm_kernel/proofs/kernel/side_at/Proof.antt by tools/derive: edit that.
--- `side_at` meets its contract: it reads the floats of a panel in order, the array is `Filled` below i. Assumes nothing.
+-- `side_at` meets its contract: below i the array holds the panel's floats from `at` on. Assumes nothing.
 use Prim.Native.Nat.{_+_, _-_}
 use mathlib.Core.Path.{refl}
 use lib.ListN.{getD}
@@ -12,7 +12,7 @@ use Rattle.zgemm_kernel.proofs.kernel.side_at.Statement.{statement}
 use Rattle.zgemm_kernel.proofs.kernel.side_at.Tie as tie
 
 abbrev Inv-loop : tie.InvT-loop
-Inv-loop a at x₀ i₀ x i = Filled nan (shape .mr) i (λ i. getD a (at + i) nan) x₀ x
+Inv-loop a at x₀ i₀ x i = Filled nan (shape .mr) i (λ k. getD a (at + k) nan) x₀ x
 
 abbrev μ-loop : tie.MeasureT-loop
 μ-loop a at x₀ i₀ x i = shape .mr - i
