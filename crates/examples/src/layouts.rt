@@ -1,0 +1,185 @@
+// The examples that are not marked P: places of C, collisions, the need, the largest size; in both real kinds where they name values.
+use call::answer::Answer;
+use dgemm::gemm::dgemm;
+use element::kind::Kind;
+use layout::need::PackLength;
+use layout::need::pack_length;
+use layout::operand::Operand;
+use sgemm::gemm::sgemm;
+
+fn answered(name: &[u8], r: Answer) {
+    show::text(name);
+    show::text(b" ");
+    show::whole(r.number());
+}
+
+// A = 1, 2, 3 times B = 1 into three elements that lie downwards from base.
+fn downwards32(base: usize) {
+    let mut c = [7.0f32, 7.0, 7.0];
+    let mut pack = [0.0f32; 16];
+    let la = Operand {
+        base: 0,
+        rs: 1,
+        cs: 1,
+    };
+    let lc = Operand {
+        base: base,
+        rs: -1,
+        cs: 1,
+    };
+    let r = sgemm(
+        3,
+        1,
+        1,
+        1.0,
+        &[1.0f32, 2.0, 3.0],
+        la,
+        &[1.0f32],
+        la,
+        0.0,
+        &mut c,
+        lc,
+        &mut pack,
+    );
+    answered(b"sgemm downwards", r);
+    show::text(b" ");
+    show::bits32(c[0]);
+    show::text(b" ");
+    show::bits32(c[1]);
+    show::text(b" ");
+    show::bits32(c[2]);
+    show::text(b"\n");
+}
+
+fn downwards64(base: usize) {
+    let mut c = [7.0f64, 7.0, 7.0];
+    let mut pack = [0.0f64; 16];
+    let la = Operand {
+        base: 0,
+        rs: 1,
+        cs: 1,
+    };
+    let lc = Operand {
+        base: base,
+        rs: -1,
+        cs: 1,
+    };
+    let r = dgemm(
+        3,
+        1,
+        1,
+        1.0,
+        &[1.0f64, 2.0, 3.0],
+        la,
+        &[1.0f64],
+        la,
+        0.0,
+        &mut c,
+        lc,
+        &mut pack,
+    );
+    answered(b"dgemm downwards", r);
+    show::text(b" ");
+    show::bits64(c[0]);
+    show::text(b" ");
+    show::bits64(c[1]);
+    show::text(b" ");
+    show::bits64(c[2]);
+    show::text(b"\n");
+}
+
+// An m by n C of so many elements, with these strides.
+fn collides(m: usize, n: usize, lc: Operand, c: &mut [f32]) {
+    let mut pack = [0.0f32; 16];
+    let o = Operand {
+        base: 0,
+        rs: 0,
+        cs: 0,
+    };
+    let r = sgemm(
+        m,
+        1,
+        n,
+        1.0,
+        &[1.0f32],
+        o,
+        &[1.0f32],
+        o,
+        0.0,
+        c,
+        lc,
+        &mut pack,
+    );
+    answered(b"sgemm places", r);
+    show::text(b"\n");
+}
+
+// What the need of an f32 call is, or that it is refused.
+fn need(m: usize, k: usize, n: usize) {
+    match pack_length(Kind::F32, m, k, n) {
+        PackLength::TooLarge => show::text(b"sgemm need refused 1"),
+        PackLength::Elements(x) => {
+            show::text(b"sgemm need ");
+            show::whole(x as u64);
+        }
+    }
+    show::text(b"\n");
+}
+
+// m = 9, k = 300, n = 5 with a pack buffer of so many elements.
+fn packed(pack: &mut [f32]) {
+    let a = [1.0f32; 2700];
+    let b = [1.0f32; 1500];
+    let mut c = [0.0f32; 45];
+    let la = Operand {
+        base: 0,
+        rs: 300,
+        cs: 1,
+    };
+    let lb = Operand {
+        base: 0,
+        rs: 5,
+        cs: 1,
+    };
+    let r = sgemm(9, 300, 5, 1.0, &a, la, &b, lb, 0.0, &mut c, lb, pack);
+    answered(b"sgemm pack", r);
+    show::text(b" ");
+    show::bits32(c[44]);
+    show::text(b"\n");
+}
+
+pub fn all() {
+    downwards32(2);
+    downwards32(1);
+    downwards64(2);
+    downwards64(1);
+    let near = Operand {
+        base: 0,
+        rs: 1,
+        cs: 2,
+    };
+    let mut five = [0.0f32; 5];
+    let mut four = [0.0f32; 4];
+    collides(3, 2, near, &mut five);
+    collides(3, 2, near, &mut four);
+    collides(2, 2, near, &mut four);
+    collides(
+        2,
+        2,
+        Operand {
+            base: 2,
+            rs: 2,
+            cs: -2,
+        },
+        &mut five,
+    );
+    need(9, 300, 5);
+    let mut enough = [0.0f32; 6144];
+    let mut short = [0.0f32; 6143];
+    packed(&mut enough);
+    packed(&mut short);
+    collides(65536, 2, near, &mut five);
+    collides(65537, 2, near, &mut five);
+    need(65536, 65536, 65536);
+    need(65537, 0, 0);
+}
