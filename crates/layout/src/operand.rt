@@ -1,4 +1,4 @@
-// An operand's layout, the index of a place, and parts of an operand as operands. Rust: `stride_offset` in ptr.rs and util.rs's callers.
+// An operand's layout, the index of a place, and parts of an operand as operands. Rust: `stride_offset`, ptr.rs.
 ghost use mathlib.Core.Path.{_≡_};
 ghost use Rattle.layout.specs.Place.{indexOf, partOf};
 ghost use Rattle.layout.specs.Operands.{Reachable, transposed};
