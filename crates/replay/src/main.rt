@@ -1,0 +1,151 @@
+// Replays the calls of the file sample.words through our entry points, and says which disagree with what the Rust crate did.
+mod reals32;
+mod reals64;
+
+use libc::STDOUT_FILENO;
+use sample::calls::KIND;
+use sample::calls::Outcome;
+use sample::calls::first_call;
+use sample::words::from_bytes;
+use sample::words::word_at;
+
+// How many calls the words hold, or the number of the one that is cut short or malformed.
+enum Contents {
+    Calls(u64),
+    Malformed(u64),
+}
+
+fn print(text: &[u8]) {
+    io::write_all(STDOUT_FILENO, text);
+}
+
+fn contents_of(words: &[u64]) -> Contents {
+    let mut at = 0;
+    let mut number = 0;
+    while at < words.len() {
+        let size = first_call(&words[at..]);
+        if size == 0 {
+            return Contents::Malformed(number);
+        }
+        at += size;
+        number += 1;
+    }
+    Contents::Calls(number)
+}
+
+fn print_call(number: u64) {
+    print(b"call ");
+    io::print_decimal(STDOUT_FILENO, number);
+}
+
+// Is the outcome that the call agrees? Where it is not, says what disagrees.
+fn report(number: u64, outcome: Outcome) -> bool {
+    match outcome {
+        Outcome::Agrees => true,
+        Outcome::Answer => {
+            print_call(number);
+            print(b" disagrees: answer\n");
+            false
+        }
+        Outcome::Place(place) => {
+            print_call(number);
+            print(b" disagrees: place ");
+            io::print_decimal(STDOUT_FILENO, place as u64);
+            print(b"\n");
+            false
+        }
+    }
+}
+
+fn replay(call: &[u64]) -> Outcome {
+    if word_at(call, KIND) % 2 == 0 {
+        return reals32::replay(call);
+    }
+    reals64::replay(call)
+}
+
+// Is a call of the kind, and does it agree? Where it disagrees, it is reported under its number.
+fn agrees(call: &[u64], kind: u64, number: u64) -> bool {
+    if word_at(call, KIND) != kind {
+        return false;
+    }
+    report(number, replay(call))
+}
+
+// Replays the calls of a kind, and answers how many agree.
+fn agreeing(words: &[u64], kind: u64) -> u64 {
+    let mut agreed = 0;
+    let mut at = 0;
+    let mut number = 0;
+    while at < words.len() {
+        let call = &words[at..];
+        let size = first_call(call);
+        if size == 0 {
+            return agreed;
+        }
+        if agrees(call, kind, number) {
+            agreed += 1;
+        }
+        at += size;
+        number += 1;
+    }
+    agreed
+}
+
+fn summarise(words: &[u64], kind: u64, name: &[u8]) {
+    let agreed = agreeing(words, kind);
+    print(name);
+    print(b": ");
+    io::print_decimal(STDOUT_FILENO, agreed);
+    print(b" calls agree\n");
+}
+
+fn summarise_all(words: &[u64]) {
+    match contents_of(words) {
+        Contents::Calls(calls) => {
+            summarise(words, 0, b"sgemm");
+            summarise(words, 1, b"dgemm");
+            summarise(words, 2, b"cgemm");
+            summarise(words, 3, b"zgemm");
+            io::print_decimal(STDOUT_FILENO, calls);
+            print(b" calls in all\n");
+        }
+        Contents::Malformed(number) => {
+            print_call(number);
+            print(b" is cut short or malformed\n");
+        }
+    }
+}
+
+fn replay_bytes(bytes: &[u8]) {
+    if bytes.len() % 8 != 0 {
+        print(b"the file is cut short within a word\n");
+        return;
+    }
+    let count = bytes.len() / 8;
+    if count > 32767 {
+        print(b"the file is too long\n");
+        return;
+    }
+    let mut space = [0u64; 32768];
+    let words = &mut space[0..count];
+    from_bytes(bytes, words);
+    summarise_all(words);
+}
+
+fn replay_file(file: i32) {
+    let mut space = [0u8; 262144];
+    let got = io::read_full(file, &mut space);
+    replay_bytes(&space[..got]);
+}
+
+fn main() {
+    let path = b"sample.words";
+    let file = os::open_read(path);
+    if file < 0 {
+        os::fail(path);
+        return;
+    }
+    replay_file(file);
+    libc::close(file);
+}

@@ -1,0 +1,83 @@
+// The calls over f64: dgemm and zgemm.
+use dgemm::gemm::dgemm;
+use sample::calls::A_LENGTH;
+use sample::calls::ALPHA;
+use sample::calls::B_LENGTH;
+use sample::calls::BETA;
+use sample::calls::C_LENGTH;
+use sample::calls::FLOATS;
+use sample::calls::KIND;
+use sample::calls::Outcome;
+use sample::calls::PACK_LENGTH;
+use sample::calls::length_at;
+use sample::calls::matrices_of;
+use sample::floats64::complex_of;
+use sample::floats64::fill;
+use sample::floats64::first_difference;
+use sample::words::after;
+use sample::words::word_at;
+use zgemm::gemm::zgemm;
+
+// The number of our answer to a call.
+fn answer(call: &[u64], a: &[f64], b: &[f64], c: &mut [f64], pack: &mut [f64]) -> u64 {
+    let q = matrices_of(call);
+    let alpha = complex_of(after(call, ALPHA));
+    let beta = complex_of(after(call, BETA));
+    if word_at(call, KIND) < 2 {
+        return dgemm(
+            q.m,
+            q.k,
+            q.n,
+            alpha.re,
+            a,
+            q.a,
+            b,
+            q.b,
+            beta.re,
+            c,
+            q.c,
+            pack,
+        ).number();
+    }
+    zgemm(q.m, q.k, q.n, alpha, a, q.a, b, q.b, beta, c, q.c, pack).number()
+}
+
+// What a call comes to, with room for its slices.
+fn replay_in(
+    call: &[u64],
+    a: &mut [f64],
+    b: &mut [f64],
+    c: &mut [f64],
+    pack: &mut [f64],
+) -> Outcome {
+    let b_words = fill(after(call, FLOATS), a);
+    let c_words = fill(b_words, b);
+    let recorded = fill(c_words, c);
+    if answer(call, a, b, c, pack) != word_at(recorded, 0) {
+        return Outcome::Answer;
+    }
+    let place = first_difference(c, after(recorded, 1));
+    if place < c.len() {
+        return Outcome::Place(place);
+    }
+    Outcome::Agrees
+}
+
+// What a call comes to.
+pub fn replay(call: &[u64]) -> Outcome {
+    let mut a = [0.0; 4096];
+    let mut b = [0.0; 4096];
+    let mut c = [0.0; 4096];
+    let mut pack = [0.0; 4096];
+    let la = length_at(call, A_LENGTH);
+    let lb = length_at(call, B_LENGTH);
+    let lc = length_at(call, C_LENGTH);
+    let lp = length_at(call, PACK_LENGTH);
+    replay_in(
+        call,
+        &mut a[0..la],
+        &mut b[0..lb],
+        &mut c[0..lc],
+        &mut pack[0..lp],
+    )
+}

@@ -1,0 +1,129 @@
+// How a call lies in its words: 21 words of numbers, the floats of A, B and C, the answer, and C's floats after the call.
+ghost use Prim.Native.Nat.{_≤_};
+ghost use lib.ListN.{length};
+use crate::words::after;
+use crate::words::signed;
+use crate::words::word_at;
+use call::judge::Matrices;
+use layout::operand::Operand;
+
+// Where each number stands.
+pub const KIND: usize = 0;
+
+pub const A_LENGTH: usize = 13;
+
+pub const B_LENGTH: usize = 14;
+
+pub const C_LENGTH: usize = 15;
+
+pub const PACK_LENGTH: usize = 16;
+
+pub const ALPHA: usize = 17;
+
+pub const BETA: usize = 19;
+
+pub const FLOATS: usize = 21;
+
+// The kinds: sgemm, dgemm, cgemm and zgemm.
+pub const KINDS: u64 = 4;
+
+const LONGEST: u64 = 4096;
+
+// The largest pattern of an f32.
+const LARGEST: u64 = 0xffff_ffff;
+
+// What a call came to: as recorded, another answer, or another float at a place of C's slice.
+pub enum Outcome {
+    Agrees,
+    Answer,
+    Place(usize),
+}
+
+// The operand whose base stands at an index, with its strides behind it.
+fn operand_at(call: &[u64], base: usize) -> Operand
+    requires { ⌜ base ≤ 10 ⌝ }
+{
+    Operand {
+        base: word_at(call, base) as usize,
+        rs: signed(word_at(call, base + 1)),
+        cs: signed(word_at(call, base + 2)),
+    }
+}
+
+// The sizes of a call and where its matrices lie.
+pub fn matrices_of(call: &[u64]) -> Matrices {
+    Matrices {
+        m: word_at(call, 1) as usize,
+        k: word_at(call, 2) as usize,
+        n: word_at(call, 3) as usize,
+        a: operand_at(call, 4),
+        b: operand_at(call, 7),
+        c: operand_at(call, 10),
+    }
+}
+
+// The length at an index, cut to the longest that a call may have.
+pub fn length_at(call: &[u64], i: usize) -> usize
+    ensures { λ r. ⌜ r ≤ 4096 ⌝ }
+{
+    let n = word_at(call, i);
+    if n < LONGEST {
+        return n as usize;
+    }
+    4096
+}
+
+// Is one of the four lengths longer than a call may have?
+fn too_long(call: &[u64]) -> bool {
+    if word_at(call, A_LENGTH) > LONGEST {
+        return true;
+    }
+    if word_at(call, B_LENGTH) > LONGEST {
+        return true;
+    }
+    if word_at(call, C_LENGTH) > LONGEST {
+        return true;
+    }
+    word_at(call, PACK_LENGTH) > LONGEST
+}
+
+// Is one of the words larger than any pattern of an f32?
+fn too_large(words: &[u64]) -> bool {
+    let mut i = 0;
+    while i < words.len() {
+        if words[i] > LARGEST {
+            return true;
+        }
+        i += 1;
+    }
+    false
+}
+
+// Do the words from alpha on hold floats of the call's kind?
+fn holds_floats(call: &[u64]) -> bool {
+    if word_at(call, KIND) % 2 == 1 {
+        return true;
+    }
+    !too_large(after(call, ALPHA))
+}
+
+// How many words the first call takes, 0 where they are cut short or are no call.
+pub fn first_call(words: &[u64]) -> usize
+    ensures { λ r. ⌜ r ≤ length (now (words .entry)) ⌝ }
+{
+    if word_at(words, KIND) >= KINDS {
+        return 0;
+    }
+    if too_long(words) {
+        return 0;
+    }
+    let c = length_at(words, C_LENGTH);
+    let size = FLOATS + length_at(words, A_LENGTH) + length_at(words, B_LENGTH) + c + 1 + c;
+    if size > words.len() {
+        return 0;
+    }
+    if holds_floats(&words[0..size]) {
+        return size;
+    }
+    0
+}

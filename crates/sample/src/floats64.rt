@@ -1,0 +1,64 @@
+// The floats of a call over f64, as words: a float is its pattern.
+use crate::words::after;
+use crate::words::word_at;
+use element::complex64::Complex64;
+
+// The largest pattern, the bit of the sign, and the pattern of infinity, above which those of the NaNs lie.
+const LARGEST: u64 = 0xffff_ffff_ffff_ffff;
+
+const SIGN: u64 = 0x8000_0000_0000_0000;
+
+const INFINITY: u64 = 0x7ff0_0000_0000_0000;
+
+// The float whose pattern a word is, a NaN where it is none.
+fn float_of(word: u64) -> f64 {
+    if word > LARGEST {
+        return 0.0 / 0.0;
+    }
+    if word % SIGN > INFINITY {
+        return 0.0 / 0.0;
+    }
+    f64::from_bits(word as u64)
+}
+
+// Does a word hold the pattern of a float, or of any NaN where the float is one?
+fn matches(x: f64, word: u64) -> bool {
+    let recorded = float_of(word);
+    if x != x {
+        return recorded != recorded;
+    }
+    if recorded != recorded {
+        return false;
+    }
+    f64::to_bits(x) == f64::to_bits(recorded)
+}
+
+// Fills floats from as many words, and answers the words behind those.
+pub fn fill<'a>(words: &'a [u64], floats: &mut [f64]) -> &'a [u64] {
+    let mut i = 0;
+    while i < floats.len() {
+        floats[i] = float_of(word_at(words, i));
+        i += 1;
+    }
+    after(words, i)
+}
+
+// The first place whose float is not the word's, or how many floats there are.
+pub fn first_difference(floats: &[f64], words: &[u64]) -> usize {
+    let mut i = 0;
+    while i < floats.len() {
+        if !matches(floats[i], word_at(words, i)) {
+            return i;
+        }
+        i += 1;
+    }
+    i
+}
+
+// The complex number whose parts the first two words hold.
+pub fn complex_of(parts: &[u64]) -> Complex64 {
+    Complex64 {
+        re: float_of(word_at(parts, 0)),
+        im: float_of(word_at(parts, 1)),
+    }
+}
