@@ -3,11 +3,10 @@
 // `kernel_fallback_impl` in dgemm_kernel.rs.
 ghost use mathlib.Core.Path.{_≡_};
 ghost use Prim.Native.Nat.{_+_, _*_, _<_, _≤_};
-ghost use lib.ListN.{length, getD};
+ghost use lib.ListN.{length};
 ghost use Rattle.element.specs.Real64.{arith, shape};
 ghost use Rattle.loops.specs.Panels.{realPacking};
-ghost use Rattle.loops.specs.Tiles.{tab, Holds, columns, stepped, summed};
-ghost use Rattle.loops.specs.TileLaws.{floatColumn};
+ghost use Rattle.loops.specs.Tiles.{tab, float, at, line, cell, Same, stepped, summed};
 ghost use Rattle.loops.specs.Work.{part};
 use element::real64::Real64;
 
@@ -56,7 +55,7 @@ fn row_at(b: &[Elem], p: usize) -> Row
 
 // One column of the tile with one depth step's products added.
 fn column_step(t: Side, x: Side, y: Elem) -> Side
-    ensures { λ r. ⌜ r ≡ floatColumn .of (shape .mr) (λ i. arith .step (floatColumn .at t i) (floatColumn .at x i) y) ⌝ }
+    ensures { λ r. ⌜ r ≡ line float (shape .mr) (λ i. arith .step (at float t i) (at float x i) y) ⌝ }
 {
     let mut u = t;
     let mut i = 0usize;
@@ -69,7 +68,7 @@ fn column_step(t: Side, x: Side, y: Elem) -> Side
 
 // The columns with one depth step's products added.
 fn step(t: Columns, x: Side, y: Row) -> Columns
-    ensures { λ r. ⌜ r ≡ stepped arith floatColumn (shape .mr) (shape .nr) t (floatColumn .at x) (floatColumn .at y) ⌝ }
+    ensures { λ r. ⌜ r ≡ stepped arith float (shape .mr) (shape .nr) t (at float x) (at float y) ⌝ }
 {
     let mut u = t;
     let mut j = 0usize;
@@ -84,8 +83,8 @@ fn step(t: Columns, x: Side, y: Row) -> Columns
 // The columns after depth step p of two packed panels.
 fn next(t: Columns, a: &[Elem], b: &[Elem], p: usize) -> Columns
     requires { ⌜ (p * shape .mr + shape .mr ≤ length (now a)) × (p * shape .nr + shape .nr ≤ length (now b)) ⌝ }
-    requires { ⌜ t ≡ summed arith floatColumn (shape .mr) (shape .nr) (realPacking .lane (now a) (shape .mr)) (realPacking .lane (now b) (shape .nr)) p ⌝ }
-    ensures { λ r. ⌜ r ≡ summed arith floatColumn (shape .mr) (shape .nr) (realPacking .lane (now (a .entry)) (shape .mr)) (realPacking .lane (now (b .entry)) (shape .nr)) (p + 1) ⌝ }
+    requires { ⌜ t ≡ summed arith float (shape .mr) (shape .nr) (realPacking .lane (now a) (shape .mr)) (realPacking .lane (now b) (shape .nr)) p ⌝ }
+    ensures { λ r. ⌜ r ≡ summed arith float (shape .mr) (shape .nr) (realPacking .lane (now (a .entry)) (shape .mr)) (realPacking .lane (now (b .entry)) (shape .nr)) (p + 1) ⌝ }
 {
     step(t, side_at(a, p), row_at(b, p))
 }
@@ -93,7 +92,7 @@ fn next(t: Columns, a: &[Elem], b: &[Elem], p: usize) -> Columns
 // The sums of kc depth steps of two packed panels.
 fn sums(kc: usize, a: &[Elem], b: &[Elem]) -> Columns
     requires { ⌜ (kc * shape .mr ≤ length (now a)) × (kc * shape .nr ≤ length (now b)) ⌝ }
-    ensures { λ r. ⌜ r ≡ summed arith floatColumn (shape .mr) (shape .nr) (realPacking .lane (now (a .entry)) (shape .mr)) (realPacking .lane (now (b .entry)) (shape .nr)) kc ⌝ }
+    ensures { λ r. ⌜ r ≡ summed arith float (shape .mr) (shape .nr) (realPacking .lane (now (a .entry)) (shape .mr)) (realPacking .lane (now (b .entry)) (shape .nr)) kc ⌝ }
 {
     let mut t = [[0.0; MR]; NR];
     let mut p = 0usize;
@@ -105,56 +104,30 @@ fn sums(kc: usize, a: &[Elem], b: &[Elem]) -> Columns
     t
 }
 
-// A column times alpha, alpha on the left.
-fn column_times(alpha: Elem, t: Side) -> Side
-    ensures { λ r. ⌜ r ≡ floatColumn .of (shape .mr) (λ i. arith .mul alpha (floatColumn .at t i)) ⌝ }
-{
-    let mut u = t;
-    let mut i = 0usize;
-    while i < MR {
-        u[i] = Real64::mul(alpha, u[i]);
-        i += 1;
-    }
-    u
-}
-
-fn times(alpha: Elem, t: Columns) -> Columns
-    ensures { λ r. ⌜ r ≡ columns arith floatColumn (shape .mr) (shape .nr) (λ i j. arith .mul alpha (floatColumn .at (getD t j (floatColumn .blank)) i)) ⌝ }
-{
-    let mut u = t;
-    let mut j = 0usize;
-    while j < NR {
-        let column = column_times(alpha, u[j]);
-        u[j] = column;
-        j += 1;
-    }
-    u
-}
-
-// Row i of the columns.
-fn row_of(t: Columns, i: usize) -> Row
+// Row i of the columns times alpha, alpha on the left.
+fn row_times(alpha: Elem, t: &Columns, i: usize) -> Row
     requires { ⌜ i < shape .mr ⌝ }
-    ensures { λ r. ⌜ r ≡ tab (shape .nr) (λ j. floatColumn .at (getD t j (floatColumn .blank)) i) ⌝ }
+    ensures { λ r. ⌜ r ≡ line float (shape .nr) (λ j. arith .mul alpha (cell float (now (t .entry)) j i)) ⌝ }
 {
     let mut row = [0.0; NR];
     let mut j = 0usize;
     while j < NR {
-        let column = t[j];
-        row[j] = column[i];
+        row[j] = Real64::mul(alpha, t[j][i]);
         j += 1;
     }
     row
 }
 
-// The first rows of the columns, as rows. The count keeps the columns apart until here: with all of them the compiler sums by rows.
-fn turned(t: Columns, rows: usize) -> Tile
+// The first rows of the columns times alpha, as rows. The count keeps the columns apart until here: with all of them the compiler sums by
+// rows.
+fn times(alpha: Elem, t: Columns, rows: usize) -> Tile
     requires { ⌜ rows ≤ shape .mr ⌝ }
-    ensures { λ r. ⌜ Holds rows (shape .nr) r (λ i j. floatColumn .at (getD t j (floatColumn .blank)) i) ⌝ }
+    ensures { λ r. ⌜ Same rows (shape .nr) (cell float r) (λ i j. arith .mul alpha (cell float t j i)) ⌝ }
 {
     let mut tile = [[0.0; NR]; MR];
     let mut i = 0usize;
     while i < rows {
-        let row = row_of(t, i);
+        let row = row_times(alpha, &t, i);
         tile[i] = row;
         i += 1;
     }
@@ -164,7 +137,7 @@ fn turned(t: Columns, rows: usize) -> Tile
 // Alpha times the product of two packed panels of depth kc: the first rows of the tile.
 pub fn kernel(kc: usize, alpha: Elem, a: &[Elem], b: &[Elem], rows: usize) -> Tile
     requires { ⌜ (kc * shape .mr ≤ length (now a)) × (kc * shape .nr ≤ length (now b)) × (rows ≤ shape .mr) ⌝ }
-    ensures { λ r. ⌜ Holds rows (shape .nr) r (part arith alpha (realPacking .lane (now (a .entry)) (shape .mr)) (realPacking .lane (now (b .entry)) (shape .nr)) kc) ⌝ }
+    ensures { λ r. ⌜ Same rows (shape .nr) (cell float r) (part arith alpha (realPacking .lane (now (a .entry)) (shape .mr)) (realPacking .lane (now (b .entry)) (shape .nr)) kc) ⌝ }
 {
-    turned(times(alpha, sums(kc, a, b)), rows)
+    times(alpha, sums(kc, a, b), rows)
 }

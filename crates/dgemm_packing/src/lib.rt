@@ -15,6 +15,51 @@ use layout::util::chunk_count;
 
 type Elem = f64;
 
+// The element at row i and depth p.
+fn element_in(a: &[Elem], la: Operand, m: usize, kc: usize, i: usize, p: usize) -> Elem
+    requires { ⌜ Readable m kc la (view .count (length (now a))) ⌝ }
+    requires { ⌜ (i < m) × (p < kc) ⌝ }
+    ensures { λ r. ⌜ r ≡ elem view (now (a .entry)) la i p ⌝ }
+{
+    let at = place(la, i, p);
+    a[at]
+}
+
+// One depth step of a panel by places: w elements from row `first` on, into pack at `at`.
+fn general_row(
+    pack: &mut [Elem],
+    at: usize,
+    w: usize,
+    a: &[Elem],
+    la: Operand,
+    m: usize,
+    kc: usize,
+    first: usize,
+    p: usize,
+)
+    requires { ⌜ Readable m kc la (view .count (length (now a))) ⌝ }
+    requires { ⌜ (at + w ≤ length (now pack)) × (first + w ≤ m) × (p < kc) ⌝ }
+    ensures { λ _. ⌜ now (pack .exit) ≡ splice (now (pack .entry)) at (singles w (λ i. padded arith m (elem view (now (a .entry)) la) (first + i) p)) ⌝ }
+{
+    let mut i = 0usize;
+    while i < w {
+        pack[at + i] = element_in(a, la, m, kc, first + i, p);
+        i += 1;
+    }
+}
+
+// The same of w neighbours in the slice, from `from` on.
+fn contiguous_row(pack: &mut [Elem], at: usize, w: usize, a: &[Elem], from: usize)
+    requires { ⌜ (at + w ≤ length (now pack)) × (from + w ≤ length (now a)) ⌝ }
+    ensures { λ _. ⌜ now (pack .exit) ≡ splice (now (pack .entry)) at (singles w (λ i. getD (now (a .entry)) (from + i) nan)) ⌝ }
+{
+    let mut i = 0usize;
+    while i < w {
+        pack[at + i] = a[from + i];
+        i += 1;
+    }
+}
+
 // The element at row i and depth p, and +0 from row m on.
 fn element_at(a: &[Elem], la: Operand, m: usize, kc: usize, i: usize, p: usize) -> Elem
     requires { ⌜ Readable m kc la (view .count (length (now a))) ⌝ }
@@ -22,14 +67,13 @@ fn element_at(a: &[Elem], la: Operand, m: usize, kc: usize, i: usize, p: usize) 
     ensures { λ r. ⌜ r ≡ padded arith m (elem view (now (a .entry)) la) i p ⌝ }
 {
     if i < m {
-        let at = place(la, i, p);
-        return a[at];
+        return element_in(a, la, m, kc, i, p);
     }
     0.0
 }
 
-// One depth step of a panel by places: w elements from row `first` on, into pack at `at`.
-fn general_row(
+// One depth step of a ragged panel: the missing rows are +0.
+fn ragged_row(
     pack: &mut [Elem],
     at: usize,
     w: usize,
@@ -51,19 +95,7 @@ fn general_row(
     }
 }
 
-// The same of w neighbours in the slice, from `from` on.
-fn contiguous_row(pack: &mut [Elem], at: usize, w: usize, a: &[Elem], from: usize)
-    requires { ⌜ (at + w ≤ length (now pack)) × (from + w ≤ length (now a)) ⌝ }
-    ensures { λ _. ⌜ now (pack .exit) ≡ splice (now (pack .entry)) at (singles w (λ i. getD (now (a .entry)) (from + i) nan)) ⌝ }
-{
-    let mut i = 0usize;
-    while i < w {
-        pack[at + i] = a[from + i];
-        i += 1;
-    }
-}
-
-// One depth step of a panel: the contiguous path where rows are neighbours and none is missing.
+// One depth step of a panel: where no row is missing, the contiguous path if they are neighbours, else the general one.
 fn pack_row(
     pack: &mut [Elem],
     at: usize,
@@ -79,15 +111,17 @@ fn pack_row(
     requires { ⌜ (at + w ≤ length (now pack)) × (first + w < 2 ^ 32) × (p < kc) × (0 < w) ⌝ }
     ensures { λ _. ⌜ now (pack .exit) ≡ splice (now (pack .entry)) at (realPacking .row w (λ i. padded arith m (elem view (now (a .entry)) la) (first + i) p)) ⌝ }
 {
-    let rs = la.rs;
-    if rs == 1 {
-        if first + w <= m {
+    if first + w <= m {
+        let rs = la.rs;
+        if rs == 1 {
             let from = place(la, first, p);
             contiguous_row(pack, at, w, a, from);
             return;
         }
+        general_row(pack, at, w, a, la, m, kc, first, p);
+        return;
     }
-    general_row(pack, at, w, a, la, m, kc, first, p);
+    ragged_row(pack, at, w, a, la, m, kc, first, p);
 }
 
 // One panel: kc depth steps.

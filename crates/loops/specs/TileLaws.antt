@@ -1,16 +1,15 @@
 -- Laws of tables, of columns that are summed, and of arrays filled in order, for every kind and every tile size. Assumes nothing.
 use Prim.Native.Nat.{ℕ, zero, suc, _+_, _<_, _≤_}
 use mathlib.Core.Path.{_≡_, refl, sym, ap, _∙_}
-use mathlib.Core.List.{List}
+use mathlib.Core.List.{List, []}
 use native.Mathlib.Nat.{not-suc-le-zero, le-of-suc-le-suc, zero-add}
 use native.Mathlib.Omega.{arith}
 use native.Mathlib.Numerals.{add-one}
 use lib.ListN.{length, getD, set, length-set}
 use lib.Seq.{ext-getD, getD-set-same, getD-set-other}
-use lib.Ieee.{Float, nan}
 use borrow.Author.Count.{below-more}
 use Rattle.element.specs.Element.{Arith, chunkSum}
-use Rattle.loops.specs.Tiles.{tab, Column, columns, stepped, summed, Filled}
+use Rattle.loops.specs.Tiles.{tab, Same, Held, at, line, cell, columns, stepped, summed, Worked, Filled}
 use Rattle.loops.specs.Work.{part}
 
 pub getD-tab : {A : Type 0} (n : ℕ) (g : ℕ → A) (i : ℕ) (z : A) → i < n → getD (tab n g) i z ≡ g i
@@ -26,36 +25,27 @@ pub tab-ext : {A : Type 0} (n : ℕ) (g h : ℕ → A) → ((i : ℕ) → i < n 
 tab-ext zero g h e = refl
 tab-ext (suc n) g h e = rw (e 0 (omega arith), tab-ext n (λ k. g (suc k)) (λ k. h (suc k)) (λ k l. e (suc k) (omega arith)))
 
--- a column of floats
-abbrev pub floatColumn : Column Float (List Float)
-floatColumn = record {
-  blank = tab 0 (λ i. nan);
-  of = λ h g. tab h g;
-  at = λ x i. getD x i nan;
-  back = λ h g i l. getD-tab h g i nan l;
-  ext = λ h g k e. tab-ext h g k e;
-}
-
 -- ---- columns that are summed
 
-module _ {X : Type 0} (ar : Arith) (held : Column (ar .E) X) (h w : ℕ) where
+module _ {N : Type 0} (ar : Arith) (held : Held (ar .E) N) (h w : ℕ) where
   pub columns-ext : (g k : ℕ → ℕ → ar .E) → ((i j : ℕ) → i < h → j < w → g i j ≡ k i j) → columns ar held h w g ≡ columns ar held h w k
-  columns-ext g k e = tab-ext w _ _ (λ j m. held .ext h _ _ (λ i l. e i j l m))
+  columns-ext g k e = tab-ext w _ _ (λ j m. tab-ext h _ _ (λ i l. ap (held .of) (e i j l m)))
 
   -- the number in row i of column j
-  pub columns-at : (g : ℕ → ℕ → ar .E) {t : List X} (i j : ℕ) → i < h → j < w → t ≡ columns ar held h w g → held .at (getD t j (held .blank)) i ≡ g i j
+  pub columns-at : (g : ℕ → ℕ → ar .E) {t : List (List N)} (i j : ℕ) → i < h → j < w → t ≡ columns ar held h w g → cell held t j i ≡ g i j
   columns-at g i j l m e =
-      ap (λ (c : List X). held .at (getD c j (held .blank)) i) e
-      ∙ ap (λ (x : X). held .at x i) (getD-tab w (λ j. held .of h (λ i. g i j)) j (held .blank) m) ∙ held .back h (λ i. g i j) i l
+      ap (λ (c : List (List N)). cell held c j i) e
+      ∙ ap (λ (x : List N). at held x i) (getD-tab w (λ j. line held h (λ i. g i j)) j [] m)
+      ∙ ap (held .is) (getD-tab h (λ i. held .of (g i j)) i (held .none) l) ∙ held .back (g i j)
 
   module _ (a b : ℕ → ℕ → ar .E) where
     -- no step yet
-    pub summed-none : {t : List X} → t ≡ columns ar held h w (λ i j. ar .nought) → t ≡ summed ar held h w a b 0
+    pub summed-none : {t : List (List N)} → t ≡ columns ar held h w (λ i j. ar .nought) → t ≡ summed ar held h w a b 0
     unfolding chunkSum summed
     summed-none e = e
 
     -- one step more
-    pub summed-more : (p : ℕ) {t r : List X} (x y : ℕ → ar .E) → t ≡ summed ar held h w a b p
+    pub summed-more : (p : ℕ) {t r : List (List N)} (x y : ℕ → ar .E) → t ≡ summed ar held h w a b p
         → ((i : ℕ) → i < h → x i ≡ a i p) → ((j : ℕ) → j < w → y j ≡ b j p)
         → r ≡ stepped ar held h w t x y → r ≡ summed ar held h w a b (p + 1)
     unfolding chunkSum stepped summed
@@ -65,28 +55,35 @@ module _ {X : Type 0} (ar : Arith) (held : Column (ar .E) X) (h w : ℕ) where
         ((u i l ∙ ap (λ (d : ℕ). a i d) (sym (zero-add p))) k)
         ((s j m ∙ ap (λ (d : ℕ). b j d) (sym (zero-add p))) k)))
 
-    -- alpha times the sums
-    pub summed-part : (kc : ℕ) (alpha : ar .E) {t r : List X} → t ≡ summed ar held h w a b kc
-        → r ≡ columns ar held h w (λ i j. ar .mul alpha (held .at (getD t j (held .blank)) i)) → r ≡ columns ar held h w (part ar alpha a b kc)
+    -- alpha times the sums, in the first n rows
+    pub summed-part : (kc n : ℕ) (alpha : ar .E) {t : List (List N)} {r : ℕ → ℕ → ar .E} → n ≤ h → t ≡ summed ar held h w a b kc
+        → Same n w r (λ i j. ar .mul alpha (cell held t j i)) → Same n w r (part ar alpha a b kc)
     unfolding summed
-    summed-part kc alpha e u =
-        u ∙ columns-ext _ _ (λ i j l m. ap (λ (z : ar .E). ar .mul alpha z) (columns-at (λ i j. chunkSum ar (a i) (b j) 0 kc) i j l m e))
+    summed-part kc n alpha o e u =
+        λ i j l m. u i j l m ∙ ap (λ (z : ar .E). ar .mul alpha z) (columns-at (λ i j. chunkSum ar (a i) (b j) 0 kc) i j (omega arith) m e)
 
--- ---- an array that a loop fills in order
+-- ---- an array that a loop works through, or fills, in order
+
+module _ {A : Type 0} (z : A) (n : ℕ) (W : ℕ → A → Type 0) (old : List A) where
+  pub worked-none : length old ≡ n → Worked z n 0 W old old
+  worked-none e = record { long = e; upto = omega arith; made = λ k l. absurd (not-suc-le-zero l); left = λ k l. refl }
+
+  pub worked-more : (i : ℕ) {l : List A} {v : A} → Worked z n i W old l → i < n → W i v → Worked z n (i + 1) W old (set l i v)
+  worked-more i {l} {v} f h e = record {
+    long = length-set l i v ∙ f .long;
+    upto = omega arith;
+    made = below-more (λ (k : ℕ). W k (getD (set l i v) k z)) i
+        (λ k m. rw (getD-set-other l i k v z (λ u. omega arith)) (f .made k m))
+        (rw (getD-set-same l i v z (omega (arith, f .long))) e);
+    left = λ k m. getD-set-other l i k v z (λ u. omega arith) ∙ f .left k (omega arith);
+  }
 
 module _ {A : Type 0} (z : A) (n : ℕ) (g : ℕ → A) (old : List A) where
   pub filled-none : length old ≡ n → Filled z n 0 g old old
-  filled-none e = record { long = e; upto = omega arith; made = λ k l. absurd (not-suc-le-zero l); left = λ k l. refl }
+  filled-none e = worked-none z n (λ k x. x ≡ g k) old e
 
   pub filled-more : (i : ℕ) {l : List A} {v : A} → Filled z n i g old l → i < n → v ≡ g i → Filled z n (i + 1) g old (set l i v)
-  filled-more i {l} {v} f h e = record {
-    long = length-set l i v ∙ f .long;
-    upto = omega arith;
-    made = below-more (λ (k : ℕ). getD (set l i v) k z ≡ g k) i
-        (λ k m. getD-set-other l i k v z (λ u. omega arith) ∙ f .made k m)
-        (getD-set-same l i v z (omega (arith, f .long)) ∙ e);
-    left = λ k m. getD-set-other l i k v z (λ u. omega arith) ∙ f .left k (omega arith);
-  }
+  filled-more i f h e = worked-more z n (λ k x. x ≡ g k) old i f h e
 
   pub filled-all : (i : ℕ) {l : List A} → Filled z n i g old l → n ≤ i → l ≡ tab n g
   filled-all i {l} f h =

@@ -1,6 +1,6 @@
--- A tile while it is summed, held by columns, and as an array of rows. Definitions only.
+-- Numbers and lines of them as the code holds them, a tile while it is summed, and arrays that a loop works through. Definitions only.
 use Prim.Native.Nat.{ℕ, zero, suc, _≤_, _<_}
-use mathlib.Core.Path.{_≡_}
+use mathlib.Core.Path.{_≡_, refl}
 use mathlib.Core.List.{List, [], _∷_}
 use lib.ListN.{length, getD}
 use lib.Ieee.{Float, nan}
@@ -11,38 +11,53 @@ abbrev pub tab : {A : Type 0} → ℕ → (ℕ → A) → List A
 tab zero g = []
 tab (suc n) g = g 0 ∷ tab n (λ k. g (suc k))
 
--- the cell at row i and column j of an array of rows; and that its first cells are g
-abbrev pub cell : List (List Float) → ℕ → ℕ → Float
-cell t i j = getD (getD t i []) j nan
+-- the same numbers in the first rows and columns
+abbrev pub Same : {E : Type 0} → ℕ → ℕ → (ℕ → ℕ → E) → (ℕ → ℕ → E) → Type 0
+Same rows cols f g = (i j : ℕ) → i < rows → j < cols → f i j ≡ g i j
 
-abbrev pub Holds : ℕ → ℕ → List (List Float) → (ℕ → ℕ → Float) → Type 0
-Holds rows cols t g = (i j : ℕ) → i < rows → j < cols → cell t i j ≡ g i j
+-- A number E as the code holds it, an N: `is` reads it, `of` writes it, and `none` stands where an array has ended.
+pub record Held (E N : Type 0) : Type 0 where
+  pub none : N
+  pub is : N → E
+  pub of : E → N
+  pub back : (x : E) → is (of x) ≡ x
 
--- A column of a tile as the code holds it: X is one column of h numbers, and `at x i` its number in row i.
-pub record Column (E X : Type 0) : Type 0 where
-  pub blank : X
-  pub of : ℕ → (ℕ → E) → X
-  pub at : X → ℕ → E
-  pub back : (h : ℕ) (g : ℕ → E) (i : ℕ) → i < h → at (of h g) i ≡ g i
-  pub ext : (h : ℕ) (g k : ℕ → E) → ((i : ℕ) → i < h → g i ≡ k i) → of h g ≡ of h k
+-- a float is held as it is
+abbrev pub float : Held Float Float
+float = record { none = nan; is = λ x. x; of = λ x. x; back = λ x. refl }
 
-module _ {X : Type 0} (ar : Arith) (held : Column (ar .E) X) (h w : ℕ) where
+module _ {E N : Type 0} (held : Held E N) where
+  -- number k of a line, which is a row or a column; a line of n numbers; number k of line l
+  abbrev pub at : List N → ℕ → E
+  at x k = held .is (getD x k (held .none))
+
+  abbrev pub line : ℕ → (ℕ → E) → List N
+  line n g = tab n (λ k. held .of (g k))
+
+  abbrev pub cell : List (List N) → ℕ → ℕ → E
+  cell t l k = at (getD t l []) k
+
+module _ {N : Type 0} (ar : Arith) (held : Held (ar .E) N) (h w : ℕ) where
   -- w columns of h numbers
-  abbrev pub columns : (ℕ → ℕ → ar .E) → List X
-  columns g = tab w (λ j. held .of h (λ i. g i j))
+  abbrev pub columns : (ℕ → ℕ → ar .E) → List (List N)
+  columns g = tab w (λ j. line held h (λ i. g i j))
 
   -- the columns with one depth step added: x is A by lane, y is B by lane
-  unfoldable pub stepped : List X → (ℕ → ar .E) → (ℕ → ar .E) → List X
-  stepped t x y = columns (λ i j. ar .step (held .at (getD t j (held .blank)) i) (x i) (y j))
+  unfoldable pub stepped : List (List N) → (ℕ → ar .E) → (ℕ → ar .E) → List (List N)
+  stepped t x y = columns (λ i j. ar .step (cell held t j i) (x i) (y j))
 
   -- the columns after n depth steps: a and b by lane and depth
-  unfoldable pub summed : (ℕ → ℕ → ar .E) → (ℕ → ℕ → ar .E) → ℕ → List X
+  unfoldable pub summed : (ℕ → ℕ → ar .E) → (ℕ → ℕ → ar .E) → ℕ → List (List N)
   unfolding chunkSum
   summed a b n = columns (λ i j. chunkSum ar (a i) (b j) 0 n)
 
--- an array of n that a loop fills in order: below i it holds g, from i on what it held at first
-pub record Filled {A : Type 0} (z : A) (n i : ℕ) (g : ℕ → A) (old l : List A) : Type 0 where
+-- An array of n that a loop works through in order: below i element k is as W says of it, from i on what it was at first. Where W says which
+-- one it is, the loop fills the array.
+pub record Worked {A : Type 0} (z : A) (n i : ℕ) (W : ℕ → A → Type 0) (old l : List A) : Type 0 where
   pub long : length l ≡ n
   pub upto : i ≤ n
-  pub made : (k : ℕ) → k < i → getD l k z ≡ g k
+  pub made : (k : ℕ) → k < i → W k (getD l k z)
   pub left : (k : ℕ) → i ≤ k → getD l k z ≡ getD old k z
+
+abbrev pub Filled : {A : Type 0} → A → ℕ → ℕ → (ℕ → A) → List A → List A → Type 0
+Filled z n i g old l = Worked z n i (λ k x. x ≡ g k) old l

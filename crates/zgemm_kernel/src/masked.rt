@@ -1,7 +1,7 @@
 // Derived from crates/cgemm_kernel/src/masked.rt by tools/derive: edit that.
 // A tile into C: what is past its rows and columns is dropped. Rust: `masked_kernel` and `c_to_masked_ab_beta_c`, gemm.rs.
 ghost use Prim.Native.Nat.{_*_, _<_, _≤_};
-ghost use lib.ListN.{length, getD};
+ghost use lib.ListN.{length};
 ghost use Rattle.element.specs.Element.{put};
 ghost use Rattle.element.specs.Slice.{Updated, Block};
 ghost use Rattle.element.specs.SliceLaws.{Region};
@@ -9,6 +9,7 @@ ghost use Rattle.element.specs.Complex64.{arith, view, asComplex, shape, fateOf
 ghost use Rattle.layout.specs.Place.{indexOf};
 ghost use Rattle.layout.specs.Operands.{Writable};
 ghost use Rattle.loops.specs.Panels.{complexPacking};
+ghost use Rattle.loops.specs.Tiles.{at, cell};
 ghost use Rattle.loops.specs.Work.{settled};
 ghost use Rattle.zgemm_kernel.specs.Parts.{held};
 use crate::kernel::Column;
@@ -61,16 +62,11 @@ fn put_column(
 )
     requires { ⌜ Writable rows cols lc (view .count (length (now c))) ⌝ }
     requires { ⌜ (rows ≤ shape .mr) × (j < cols) ⌝ }
-    ensures { λ _. ⌜ Updated view (indexOf lc) (Region 0 rows j 1) (λ i j. put arith (fateOf fate) (held .at ab i)) (now (c .entry)) (now (c .exit)) ⌝ }
+    ensures { λ _. ⌜ Updated view (indexOf lc) (Region 0 rows j 1) (λ i j. put arith (fateOf fate) (at held ab i)) (now (c .entry)) (now (c .exit)) ⌝ }
 {
-    let re = ab.re;
-    let im = ab.im;
     let mut i = 0usize;
     while i < rows {
-        let part = Complex64 {
-            re: re[i],
-            im: im[i],
-        };
+        let part = ab[i];
         put_one(part, fate, c, lc, rows, cols, i, j);
         i += 1;
     }
@@ -87,7 +83,7 @@ fn c_to_masked_ab_beta_c(
 )
     requires { ⌜ Writable rows cols lc (view .count (length (now c))) ⌝ }
     requires { ⌜ (rows ≤ shape .mr) × (cols ≤ shape .nr) ⌝ }
-    ensures { λ _. ⌜ Updated view (indexOf lc) (Block rows cols) (λ i j. put arith (fateOf fate) (held .at (getD ab j (held .blank)) i)) (now (c .entry)) (now (c .exit)) ⌝ }
+    ensures { λ _. ⌜ Updated view (indexOf lc) (Block rows cols) (λ i j. put arith (fateOf fate) (cell held ab j i)) (now (c .entry)) (now (c .exit)) ⌝ }
 {
     let mut j = 0usize;
     while j < cols {
@@ -114,6 +110,6 @@ pub fn masked_kernel(
     requires { ⌜ (kc * complexPacking .floats (shape .mr) ≤ length (now a)) × (kc * complexPacking .floats (shape .nr) ≤ length (now b)) ⌝ }
     ensures { λ _. ⌜ Updated view (indexOf lc) (Block rows cols) (settled arith (fateOf fate) (asComplex alpha) (complexPacking .lane (now (a .entry)) (shape .mr)) (complexPacking .lane (now (b .entry)) (shape .nr)) kc) (now (c .entry)) (now (c .exit)) ⌝ }
 {
-    let ab = kernel(kc, alpha, a, b);
+    let ab = kernel(kc, alpha, a, b, rows);
     c_to_masked_ab_beta_c(ab, fate, c, lc, rows, cols);
 }

@@ -1,13 +1,14 @@
 -- Derived from crates/sgemm_packing/proofs/general_row/Proof.antt by tools/derive: edit that.
 -- `general_row` meets its contract: the first i of its rows by places are spliced in, the length is kept. Assumes nothing.
 use Prim.Native.Nat.{_+_, _-_, _≤_}
-use mathlib.Core.Path.{_≡_, refl, _∙_}
+use mathlib.Core.Path.{_≡_, refl, sym, _∙_}
 use native.Mathlib.Omega.{arith}
 use lib.ListN.{length, length-set}
+use denote.Ref.{now}
 use Rattle.element.specs.Real64.{arith as ar, view}
 use Rattle.element.specs.Runs.{splice}
 use Rattle.loops.specs.Panels.{singles, elem, padded}
-use Rattle.loops.specs.PanelLaws.{singles-none, singles-more}
+use Rattle.loops.specs.PanelLaws.{singles-none, singles-more, padded-in}
 use borrow.Author.Needs.{needs}
 use Rattle.dgemm_packing.proofs.general_row.Statement.{statement}
 use Rattle.dgemm_packing.proofs.general_row.Tie as tie
@@ -21,11 +22,11 @@ abbrev μ-loop : tie.MeasureT-loop
 loop-holds : tie.Need-loop-holds Inv-loop μ-loop
 loop-holds c = (omega arith, refl, singles-none _ _ _)
 
-add-element-at : tie.Need-add-element-at Inv-loop μ-loop
-add-element-at c = search needs
+add-element-in : tie.Need-add-element-in Inv-loop μ-loop
+add-element-in c = search needs
 
-element-at-requires : tie.Need-element-at-requires Inv-loop μ-loop
-element-at-requires c κs = search needs
+element-in-requires : tie.Need-element-in-requires Inv-loop μ-loop
+element-in-requires c κs = search needs
 
 add-pack : tie.Need-add-pack Inv-loop μ-loop
 add-pack c = search needs
@@ -43,7 +44,9 @@ loop-less : tie.Need-loop-less Inv-loop μ-loop
 loop-less c = search needs
 
 loop-again : tie.Need-loop-again Inv-loop μ-loop
-loop-again c = let k = c .before .before .loop in (omega arith, length-set (k .pack) _ _ ∙ k .inv .1, singles-more _ _ _ (k .i) (omega arith) (k .inv .2) (c .element-at .ensures))
+loop-again c = let k = c .before .before .loop in
+    let a = c .before .before .before .before .before .args in
+    (omega arith, length-set (k .pack) _ _ ∙ k .inv .1, singles-more _ _ _ (k .i) (omega arith) (k .inv .2) (c .element-in .ensures ∙ sym (padded-in ar (a .m) (elem view (now (a .a)) (a .la)) (a .first + k .i) (a .p) (omega arith))))
 
 same-length : tie.Need-same-length Inv-loop μ-loop
 same-length c = search needs
@@ -60,8 +63,8 @@ general-row-spec =
     Inv-loop
     μ-loop
     loop-holds
-    add-element-at
-    element-at-requires
+    add-element-in
+    element-in-requires
     add-pack
     mul-pack
     slice-write-pack

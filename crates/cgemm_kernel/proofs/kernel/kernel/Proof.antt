@@ -1,6 +1,6 @@
--- `kernel` meets its contract: each number of the sums is its chunk's sum, and is multiplied by alpha. Assumes nothing.
+-- `kernel` meets its contract: each number of the columns is its chunk's sum, and its first rows are multiplied by alpha. Assumes nothing.
 use denote.Ref.{now}
-use Rattle.element.specs.Complex32.{arith as ar, asComplex, shape}
+use Rattle.element.specs.Complex32.{arith as kind, asComplex, shape}
 use Rattle.loops.specs.Panels.{complexPacking}
 use Rattle.loops.specs.TileLaws.{summed-part}
 use Rattle.cgemm_kernel.specs.Parts.{held}
@@ -16,8 +16,10 @@ times-requires c κs = search needs
 
 returns : tie.Need-returns
 returns c =
-    let a = c .before .before .before .before .args in
-    summed-part ar held (shape .mr) (shape .nr) (complexPacking .lane (now (a .a)) (shape .mr)) (complexPacking .lane (now (a .b)) (shape .nr)) (a .kc) (asComplex (a .alpha)) (c .before .sums .ensures) (c .times .ensures)
+    let s = c .before .before .before .before in
+    let a = s .args in
+    summed-part kind held (shape .mr) (shape .nr) (complexPacking .lane (now (a .a)) (shape .mr)) (complexPacking .lane (now (a .b)) (shape .nr)) (a .kc) (a .rows) (asComplex (a .alpha))
+    (s .pre .2) (c .before .sums .ensures) (c .times .ensures)
 
 pub kernel-spec : {M : Type 1} → statement M
 kernel-spec = tie.close (tie.spec sums-requires times-requires returns)

@@ -1,13 +1,14 @@
 -- `step` meets its contract: before j the tile's columns have the step's products added. Assumes nothing.
 use Prim.Native.Nat.{_-_}
 use mathlib.Core.Path.{ap, _∙_}
+use mathlib.Core.List.{List, []}
 use native.Mathlib.Omega.{arith}
 use lib.ListN.{getD}
 use Rattle.element.specs.Element.{Complex}
 use Rattle.element.specs.Complex32.{arith as kind, shape}
-use Rattle.loops.specs.Tiles.{stepped, Filled}
+use Rattle.loops.specs.Tiles.{at, line, stepped, Filled}
 use Rattle.loops.specs.TileLaws.{filled-none, filled-more, filled-all}
-use Rattle.cgemm_kernel.specs.declared.kernel.Column.{Column}
+use Rattle.element.specs.declared.complex32.Complex32.{Complex32}
 use Rattle.cgemm_kernel.specs.declared.kernel.Parts.{Parts}
 use Rattle.cgemm_kernel.specs.Parts.{held, both}
 use borrow.Author.Needs.{needs}
@@ -15,11 +16,11 @@ use Rattle.cgemm_kernel.proofs.kernel.step.Statement.{statement}
 use Rattle.cgemm_kernel.proofs.kernel.step.Tie as tie
 
 -- a column with the products of its element b of B added
-abbrev added : Parts → Complex → Column → Column
-added x b t = held .of (shape .mr) (λ i. kind .step (held .at t i) (both (x .pp) (x .qq) i) b)
+abbrev added : Parts → Complex → List Complex32 → List Complex32
+added x b t = line held (shape .mr) (λ i. kind .step (at held t i) (both (x .pp) (x .qq) i) b)
 
 abbrev Inv-loop : tie.InvT-loop
-Inv-loop x rr ss u₀ j₀ u j = Filled (held .blank) (shape .nr) j (λ j. added x (both rr ss j) (getD u₀ j (held .blank))) u₀ u
+Inv-loop x rr ss u₀ j₀ u j = Filled [] (shape .nr) j (λ j. added x (both rr ss j) (getD u₀ j [])) u₀ u
 
 abbrev μ-loop : tie.MeasureT-loop
 μ-loop x rr ss u₀ j₀ u j = shape .nr - j
@@ -65,7 +66,7 @@ loop-again c =
     let k = c .before .before .before .loop in
     let x = c .before .before .before .before .before .before .args .x in
     filled-more _ _ _ _ (k .j) (k .inv) (c .before .before .loop-test .taken)
-    (c .column-step .ensures ∙ ap (λ (z : Column). added x (both (x .rr) (x .ss) (k .j)) z) (k .inv .left (k .j) (omega arith)))
+    (c .column-step .ensures ∙ ap (λ (z : List Complex32). added x (both (x .rr) (x .ss) (k .j)) z) (k .inv .left (k .j) (omega arith)))
 
 returns : tie.Need-returns Inv-loop μ-loop
 unfolding stepped

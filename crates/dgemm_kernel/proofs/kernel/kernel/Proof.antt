@@ -1,12 +1,10 @@
 -- Derived from crates/sgemm_kernel/proofs/kernel/kernel/Proof.antt by tools/derive: edit that.
--- `kernel` meets its contract: each number of the columns is alpha times its chunk's sum, and the tile holds their first rows. Assumes nothing.
-use mathlib.Core.Path.{_∙_}
-use native.Mathlib.Omega.{arith}
+-- `kernel` meets its contract: each number of the columns is its chunk's sum, and the tile holds their first rows times alpha. Assumes nothing.
 use denote.Ref.{now}
 use Rattle.element.specs.Real64.{arith as ar, shape}
 use Rattle.loops.specs.Panels.{realPacking}
-use Rattle.loops.specs.TileLaws.{floatColumn, columns-at, summed-part}
-use Rattle.loops.specs.Work.{part}
+use Rattle.loops.specs.Tiles.{float}
+use Rattle.loops.specs.TileLaws.{summed-part}
 use borrow.Author.Needs.{needs}
 use Rattle.dgemm_kernel.proofs.kernel.kernel.Statement.{statement}
 use Rattle.dgemm_kernel.proofs.kernel.kernel.Tie as tie
@@ -17,18 +15,12 @@ sums-requires c κs = search needs
 times-requires : tie.Need-times-requires
 times-requires c κs = search needs
 
-turned-requires : tie.Need-turned-requires
-turned-requires c κs = search needs
-
 returns : tie.Need-returns
 returns c =
-    let s = c .before .before .before .before .before in
+    let s = c .before .before .before .before in
     let a = s .args in
-    let x = realPacking .lane (now (a .a)) (shape .mr) in
-    let y = realPacking .lane (now (a .b)) (shape .nr) in
-    λ i j l m. c .turned .ensures i j l m
-    ∙ columns-at ar floatColumn (shape .mr) (shape .nr) (part ar (a .alpha) x y (a .kc)) i j (omega (arith, s .pre)) m
-    (summed-part ar floatColumn (shape .mr) (shape .nr) x y (a .kc) (a .alpha) (c .before .before .sums .ensures) (c .before .times .ensures))
+    summed-part ar float (shape .mr) (shape .nr) (realPacking .lane (now (a .a)) (shape .mr)) (realPacking .lane (now (a .b)) (shape .nr)) (a .kc) (a .rows) (a .alpha)
+    (s .pre .2) (c .before .sums .ensures) (c .times .ensures)
 
 pub kernel-spec : {M : Type 1} → statement M
-kernel-spec = tie.close (tie.spec sums-requires times-requires turned-requires returns)
+kernel-spec = tie.close (tie.spec sums-requires times-requires returns)

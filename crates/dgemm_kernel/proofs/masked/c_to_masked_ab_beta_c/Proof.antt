@@ -11,14 +11,14 @@ use Rattle.element.specs.ViewLaws.{real-lawful}
 use Rattle.element.specs.Real64.{arith as ar, view, fateOf}
 use Rattle.layout.specs.Place.{indexOf}
 use Rattle.layout.specs.PartLaws.{writable-long}
-use Rattle.loops.specs.Tiles.{cell}
+use Rattle.loops.specs.Tiles.{float, cell}
 use Rattle.loops.specs.PutLaws.{line-next}
 use borrow.Author.Needs.{needs}
 use Rattle.dgemm_kernel.proofs.masked.c_to_masked_ab_beta_c.Statement.{statement}
 use Rattle.dgemm_kernel.proofs.masked.c_to_masked_ab_beta_c.Tie as tie
 
 abbrev Inv-loop : tie.InvT-loop
-Inv-loop fate c₀ lc rows cols ab i₀ c i = (i ≤ rows) × (length c ≡ length c₀) × Updated view (indexOf lc) (Block i cols) (λ i j. put ar (fateOf fate) (cell ab i j)) c₀ c
+Inv-loop fate c₀ lc rows cols ab i₀ c i = (i ≤ rows) × (length c ≡ length c₀) × Updated view (indexOf lc) (Block i cols) (λ i j. put ar (fateOf fate) (cell float ab i j)) c₀ c
 
 abbrev μ-loop : tie.MeasureT-loop
 μ-loop fate c₀ lc rows cols ab i₀ c i = rows - i
@@ -50,8 +50,8 @@ loop-again c =
     let f = fateOf (s .args .fate) in (
       omega arith,
       search needs,
-      line-next real-lawful (s .pre .0) (λ i j. put ar f (cell (s .args .t1) i j)) (k .i) (omega arith) (k .inv .2)
-          (agreeing view (indexOf (s .args .lc)) (λ m l o x. let e : k .i ≡ m = omega arith in ap (λ (n : ℕ). put ar f (cell (s .args .t1) n l) x) e) (c .before .before .put-row .ensures)),
+      line-next real-lawful (s .pre .0) (λ i j. put ar f (cell float (s .args .t1) i j)) (k .i) (omega arith) (k .inv .2)
+          (agreeing view (indexOf (s .args .lc)) (λ m l o x. let e : k .i ≡ m = omega arith in ap (λ (n : ℕ). put ar f (cell float (s .args .t1) n l) x) e) (c .before .before .put-row .ensures)),
     )
 
 same-length : tie.Need-same-length Inv-loop μ-loop

@@ -11,38 +11,33 @@ use Rattle.element.specs.ViewLaws.{complex-lawful}
 use Rattle.element.specs.Complex64.{arith as kind, view, fateOf}
 use Rattle.layout.specs.Place.{indexOf}
 use Rattle.layout.specs.PartLaws.{writable-long}
+use Rattle.loops.specs.Tiles.{at}
 use Rattle.loops.specs.PutLaws.{down-next}
-use Rattle.zgemm_kernel.specs.Parts.{both}
+use Rattle.zgemm_kernel.specs.Parts.{held}
 use borrow.Author.Needs.{needs}
 use Rattle.zgemm_kernel.proofs.masked.put_column.Statement.{statement}
 use Rattle.zgemm_kernel.proofs.masked.put_column.Tie as tie
 
 abbrev Inv-loop : tie.InvT-loop
-Inv-loop fate c₀ lc rows cols j re im i₀ c i =
-    (i ≤ rows) × (length c ≡ length c₀) × Updated view (indexOf lc) (Region 0 i j 1) (λ i j. put kind (fateOf fate) (both re im i)) c₀ c
+Inv-loop fate c₀ lc rows cols j ab i₀ c i =
+    (i ≤ rows) × (length c ≡ length c₀) × Updated view (indexOf lc) (Region 0 i j 1) (λ i j. put kind (fateOf fate) (at held ab i)) c₀ c
 
 abbrev μ-loop : tie.MeasureT-loop
-μ-loop fate c₀ lc rows cols j re im i₀ c i = rows - i
+μ-loop fate c₀ lc rows cols j ab i₀ c i = rows - i
 
 loop-holds : tie.Need-loop-holds Inv-loop μ-loop
 loop-holds c = (omega arith, refl, untouched view _ (λ i j p. omega arith))
 
-mul-t13 : tie.Need-mul-t13 Inv-loop μ-loop
-mul-t13 c = search needs
+mul-part : tie.Need-mul-part Inv-loop μ-loop
+mul-part c = search needs
 
-array-read-t16 : tie.Need-array-read-t16 Inv-loop μ-loop
-array-read-t16 c = search needs
-
-mul-t17 : tie.Need-mul-t17 Inv-loop μ-loop
-mul-t17 c = search needs
-
-array-read-t20 : tie.Need-array-read-t20 Inv-loop μ-loop
-array-read-t20 c = search needs
+array-copy-out-part : tie.Need-array-copy-out-part Inv-loop μ-loop
+array-copy-out-part c = search needs
 
 put-one-requires : tie.Need-put-one-requires Inv-loop μ-loop
 put-one-requires c κs =
-    let s = c .before .before .before .before .before .before in
-    (writable-long (ap (λ (n : ℕ). view .count n) (c .before .before .loop .inv .1)) (s .pre .0), (c .before .loop-test .taken, s .pre .1 .1))
+    let s = c .before .before .before .before .before in
+    (writable-long (ap (λ (n : ℕ). view .count n) (c .before .before .before .loop .inv .1)) (s .pre .0), (c .before .before .loop-test .taken, s .pre .1 .1))
 
 add-i : tie.Need-add-i Inv-loop μ-loop
 add-i c = search needs
@@ -52,15 +47,15 @@ loop-less c = search needs
 
 loop-again : tie.Need-loop-again Inv-loop μ-loop
 loop-again c =
-    let s = c .before .before .before .before .before .before .before .before .before in
-    let k = c .before .before .before .before .before .loop in
-    let ab = s .args .ab in
+    let s = c .before .before .before .before .before .before .before .before in
+    let k = c .before .before .before .before .before .before .loop in
+    let ab = s .args .t1 in
     let f = fateOf (s .args .fate) in (
       omega arith,
       search needs,
-      down-next complex-lawful (s .pre .0) (λ i j. put kind f (both (ab .re) (ab .im) i)) (k .i) (s .args .j)
-          (c .before .before .before .before .loop-test .taken) (s .pre .1 .1) (k .inv .2)
-          (agreeing view (indexOf (s .args .lc)) (λ r l o x. let e : k .i ≡ r = omega arith in ap (λ (q : ℕ). put kind f (both (ab .re) (ab .im) q) x) e)
+      down-next complex-lawful (s .pre .0) (λ i j. put kind f (at held ab i)) (k .i) (s .args .j)
+          (c .before .before .before .before .before .loop-test .taken) (s .pre .1 .1) (k .inv .2)
+          (agreeing view (indexOf (s .args .lc)) (λ r l o x. let e : k .i ≡ r = omega arith in ap (λ (q : ℕ). put kind f (at held ab q) x) e)
           (c .before .before .put-one .ensures)),
     )
 
@@ -68,7 +63,7 @@ same-length : tie.Need-same-length Inv-loop μ-loop
 same-length c = search needs
 
 returns : tie.Need-returns Inv-loop μ-loop
-returns c = let e : c .before .loop .i ≡ c .before .before .before .before .before .args .rows = omega arith in rw e at (c .before .loop .inv .2)
+returns c = let e : c .before .loop .i ≡ c .before .before .before .args .rows = omega arith in rw e at (c .before .loop .inv .2)
 
 pub put-column-spec : {M : Type 1} → statement M
 put-column-spec =
@@ -77,10 +72,8 @@ put-column-spec =
     Inv-loop
     μ-loop
     loop-holds
-    mul-t13
-    array-read-t16
-    mul-t17
-    array-read-t20
+    mul-part
+    array-copy-out-part
     put-one-requires
     add-i
     loop-less
