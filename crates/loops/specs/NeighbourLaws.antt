@@ -8,15 +8,14 @@ use lib.IntN.{pos}
 use lib.ListN.{getD}
 use lib.Ieee.{Float, Format, nan}
 use Rattle.element.specs.Element.{real}
-use Rattle.element.specs.Runs.{splice}
 use Rattle.element.specs.Slice.{realView}
 use Rattle.layout.specs.declared.operand.Operand.{Operand}
 use Rattle.layout.specs.Place.{placeOf, indexOf}
 use Rattle.layout.specs.Operands.{Readable}
 use Rattle.layout.specs.PartLaws.{index-lt}
 use Rattle.layout.specs.Signs.{up, dn, abs-is, place-bal, inside-is}
-use Rattle.loops.specs.Panels.{singles, elem, padded}
-use Rattle.loops.specs.PanelLaws.{singles-ext, padded-in}
+use Rattle.loops.specs.Panels.{elem, padded}
+use Rattle.loops.specs.PanelLaws.{padded-in}
 
 -- w rows from `first` on of an operand whose row stride is one, none of them missing, at depth p
 module _ {m kc len : ℕ} {o : Operand} (read : Readable m kc o len) (one : o .rs ≡ pos 1) (w first p : ℕ) (full : first + w ≤ m) (lp : p < kc) where
@@ -45,11 +44,9 @@ module _ {m kc len : ℕ} {o : Operand} (read : Readable m kc o len) (one : o .r
   pub near-fits : 0 < w → indexOf o first p + w ≤ len
   near-fits h = omega (arith, near-index (w - 1) (omega arith), index-lt read (first + (w - 1)) p (omega arith) lp)
 
-  -- a copy of such neighbours leaves the row of the panel
-  near : (f : Format) (src : List Float) → singles w (λ i. getD src (indexOf o first p + i) nan) ≡ singles w (λ i. padded (real f) m (elem realView src o) (first + i) p)
-  near f src =
-      singles-ext w _ _ (λ i l. ap (λ (k : ℕ). getD src k nan) (sym (near-index i l)) ∙ sym (padded-in (real f) m (elem realView src o) (first + i) p (omega arith)))
-
-  pub near-copied : (f : Format) (src d : List Float) (at from : ℕ) {e : List Float} → from ≡ indexOf o first p → e ≡ splice d at (singles w (λ i. getD src (from + i) nan))
-      → e ≡ splice d at (singles w (λ i. padded (real f) m (elem realView src o) (first + i) p))
-  near-copied f src d at from at-first u = u ∙ rw at-first (ap (λ (l : List Float). splice d at l) (near f src))
+  -- such neighbours are the lanes of the panel
+  pub near-read : (f : Format) (src : List Float) {from : ℕ} → from ≡ indexOf o first p → (i : ℕ) → i < w
+      → getD src (from + i) nan ≡ padded (real f) m (elem realView src o) (first + i) p
+  near-read f src e i l =
+      ap (λ (k : ℕ). getD src (k + i) nan) e ∙ ap (λ (k : ℕ). getD src k nan) (sym (near-index i l))
+      ∙ sym (padded-in (real f) m (elem realView src o) (first + i) p (omega arith))

@@ -15,6 +15,10 @@ tab (suc n) g = g 0 ∷ tab n (λ k. g (suc k))
 abbrev pub Same : {E : Type 0} → ℕ → ℕ → (ℕ → ℕ → E) → (ℕ → ℕ → E) → Type 0
 Same rows cols f g = (i j : ℕ) → i < rows → j < cols → f i j ≡ g i j
 
+-- an array of floats whose first n are g
+abbrev pub Begins : ℕ → List Float → (ℕ → Float) → Type 0
+Begins n x g = (i : ℕ) → i < n → getD x i nan ≡ g i
+
 -- A number E as the code holds it, an N: `is` reads it, `of` writes it, and `none` stands where an array has ended.
 pub record Held (E N : Type 0) : Type 0 where
   pub none : N

@@ -34,7 +34,7 @@ add-pack-row c = omega (arith, room (c .before))
 pack-row-requires : tie.Need-pack-row-requires Inv-loop μ-loop
 pack-row-requires c κs =
     let s = c .before .before .before .before .before in
-    (s .pre .0, (omega (arith, room (c .before)), s .pre .1 .1, c .before .loop-test .taken, s .pre .1 .2))
+    (s .pre .0, (omega (arith, room (c .before)), s .pre .1 .1, s .pre .1 .2, c .before .loop-test .taken, s .pre .1 .3))
 
 add-p : tie.Need-add-p Inv-loop μ-loop
 add-p c = search needs
