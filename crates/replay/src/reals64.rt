@@ -1,3 +1,4 @@
+// Derived from crates/replay/src/reals32.rt by tools/derive: edit that.
 // The calls over f64: dgemm and zgemm.
 use dgemm::gemm::dgemm;
 use sample::calls::A_LENGTH;

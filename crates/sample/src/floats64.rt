@@ -1,3 +1,4 @@
+// Derived from crates/sample/src/floats32.rt by tools/derive: edit that.
 // The floats of a call over f64, as words: a float is its pattern.
 use crate::words::after;
 use crate::words::word_at;

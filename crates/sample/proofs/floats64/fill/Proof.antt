@@ -1,3 +1,4 @@
+-- Derived from crates/sample/proofs/floats32/fill/Proof.antt by tools/derive: edit that.
 -- `sample::floats64::fill` is safe and ends. The invariant: as many floats as before, and `i` is at most their number. The measure is how
 -- many are left. Assumes nothing.
 use Prim.Native.Nat.{_≤_, _-_}

@@ -1,3 +1,4 @@
+-- Derived from crates/sample/proofs/floats32/first_difference/Proof.antt by tools/derive: edit that.
 -- `sample::floats64::first_difference` is safe and ends. The invariant: `i` is at most the number of floats. The measure is how many are
 -- left. Assumes nothing.
 use Prim.Native.Nat.{_≤_, _-_}

@@ -1,3 +1,4 @@
+-- Derived from crates/sample/proofs/floats32/matches/Proof.antt by tools/derive: edit that.
 -- `sample::floats64::matches` is safe: each float whose pattern it takes did not differ from itself, so it is no NaN. Assumes nothing.
 use borrow.Author.Needs.{needs}
 use Rattle.sample.proofs.Laws.{same-no-nan}

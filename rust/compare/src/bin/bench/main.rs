@@ -3,7 +3,7 @@
 //!     rust/compare/cargo run --release --bin bench -- [quick] [FOLDER]
 //!
 //! The three run by turns in one process, nine times each after one run that warms the caches; medians are printed as a
-//! table. FOLDER (target/bench by default) gets speed.csv and speed.svg. `quick` leaves out what takes long.
+//! table, and the ratio of the minima to (b). FOLDER (target/bench by default) gets speed.csv and speed.svg. `quick` leaves out what takes long.
 
 use compare::kind::{Call, Real, C, D, S, Z};
 use compare::plain::Plain;
@@ -33,6 +33,11 @@ impl Measured {
     /// Ours over (a), ours over (b).
     pub fn ratios(&self) -> [f64; 2] {
         [self.medians[0] / self.medians[1], self.medians[0] / self.medians[2]]
+    }
+
+    /// Ours over (b), of the minima: what is left of a ratio where the machine is not idle.
+    pub fn ratio_of_minima(&self) -> f64 {
+        self.minima[0] / self.minima[2]
     }
 
     /// Medians in nanoseconds a multiply-add.
@@ -93,7 +98,7 @@ fn measure<K: Plain>(sizes: [usize; 3], strided: bool) -> Measured {
         })
     };
     let warm = (0..3).map(|which| run(which, 1)).fold(f64::MAX, f64::min);
-    let times = (3e6 / warm).clamp(1.0, 1e5) as usize;
+    let times = (1e7 / warm).clamp(1.0, 1e5) as usize;
     let mut samples = [[0.0; ROUNDS]; 3];
     for round in 0..ROUNDS {
         for turn in 0..3 {
@@ -124,13 +129,13 @@ fn least<K: Plain>() -> ([f64; 3], f64) {
 }
 
 fn table(all: &[Measured]) {
-    println!("| kind | shape | layout | ours, ms | plain (a), ms | fallback (b), ms | ours/(a) | ours/(b) |");
-    println!("|---|---|---|---:|---:|---:|---:|---:|");
+    println!("| kind | shape | layout | ours, ms | plain (a), ms | fallback (b), ms | ours/(a) | ours/(b) | minima's |");
+    println!("|---|---|---|---:|---:|---:|---:|---:|---:|");
     for x in all {
         let layout = if x.strided { "strided" } else { "contiguous" };
         let [ours, plain, fallback] = x.medians.map(|t| t / 1e6);
-        let [a, b] = x.ratios();
-        println!("| {} | {} | {layout} | {ours:.3} | {plain:.3} | {fallback:.3} | {a:.2} | {b:.2} |", x.kind, x.shape());
+        let ([a, b], least) = (x.ratios(), x.ratio_of_minima());
+        println!("| {} | {} | {layout} | {ours:.3} | {plain:.3} | {fallback:.3} | {a:.2} | {b:.2} | {least:.2} |", x.kind, x.shape());
     }
 }
 
