@@ -77,3 +77,27 @@ pub fn judge(kind: Kind, q: Matrices, floats: Lengths) -> Answer
     }
     Answer::Done
 }
+
+// The same of a call's own sizes and operands.
+pub fn judged(
+    kind: Kind,
+    m: usize,
+    k: usize,
+    n: usize,
+    la: Operand,
+    lb: Operand,
+    lc: Operand,
+    floats: Lengths,
+) -> Answer
+    ensures { λ r. ⌜ Verdict kind (record { m = m; k = k; n = n; a = la; b = lb; c = lc }) floats (numberOf r) ⌝ }
+{
+    let q = Matrices {
+        m: m,
+        k: k,
+        n: n,
+        a: la,
+        b: lb,
+        c: lc,
+    };
+    judge(kind, q, floats)
+}

@@ -116,9 +116,10 @@ fn show_pick(scores: &Scores, i: usize)
     }
 }
 
-fn main() {
+// What the inverters sent until five, a row each; one reading is a gap.
+fn telemetry() -> Telemetry {
     let gap: f64 = 0.0 / 0.0;
-    let telemetry = [
+    [
         96.0f64,
         36.0,
         8.0,
@@ -131,8 +132,12 @@ fn main() {
         120.0,
         30.0,
         24.0,
-    ];
-    let correction = [
+    ]
+}
+
+// What came late: readings of the second inverter.
+fn late() -> Telemetry {
+    [
         0.0f64,
         0.0,
         0.0,
@@ -145,12 +150,16 @@ fn main() {
         0.0,
         0.0,
         0.0,
-    ];
+    ]
+}
+
+fn main() {
+    let correction = late();
     let mut scores = [0.0f64; 8];
     show::text(b"Five o'clock: 4 inverters, 3 readings each, 2 scores; ");
     show_need();
     show::text(b"telemetry times coefficients (a reading of inverter 3 is a gap)\n");
-    show_answer(scored(&telemetry, 0.0, &mut scores, 0));
+    show_answer(scored(&telemetry(), 0.0, &mut scores, 0));
     show_scores(&scores);
     show::text(b"\na late correction for inverter 2, multiplied and added\n");
     show_answer(scored(&correction, 1.0, &mut scores, 0));
