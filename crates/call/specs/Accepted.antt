@@ -5,7 +5,7 @@ use Rattle.element.specs.declared.kind.Kind.{Kind}
 use Rattle.element.specs.Kinds.{viewOf}
 use Rattle.layout.specs.Operands.{Modest, Readable, Writable}
 use Rattle.layout.specs.Tests.{all-inside, none-meet, not-large, modest}
-use Rattle.layout.specs.PartLaws.{readable-apart}
+use Rattle.layout.specs.PartLaws.{writable}
 use Rattle.call.specs.declared.judge.Matrices.{Matrices}
 use Rattle.call.specs.declared.judge.Lengths.{Lengths}
 use Rattle.call.specs.Demands.{Verdict}
@@ -31,7 +31,7 @@ module _ (kind : Kind) (q : Matrices) (floats : Lengths) (v : Verdict kind q flo
           inside = all-inside (q .m) (q .n) (q .c) (viewOf kind .count (floats .c)) (c-done kind q floats v hm hn);
           long = l;
         } in
-        record { readable = f; apart = readable-apart f (none-meet (q .m) (q .n) (q .c) (apart-done kind q floats v hm hn)) }
+        writable f (none-meet (q .m) (q .n) (q .c) (apart-done kind q floats v hm hn))
 
     module _ (hk : 0 < q .k) where
       pub readable-a : viewOf kind .count (floats .a) < 2 ^ 62 → Readable (q .m) (q .k) (q .a) (viewOf kind .count (floats .a))

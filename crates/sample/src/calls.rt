@@ -1,6 +1,8 @@
 // How a call lies in its words: 21 words of numbers, the floats of A, B and C, the answer, and C's floats after the call.
+ghost use mathlib.Core.Path.{_≡_};
 ghost use Prim.Native.Nat.{_≤_};
 ghost use lib.ListN.{length};
+ghost use Rattle.sample.specs.Calls.{operandAt, matricesOf};
 use crate::words::after;
 use crate::words::signed;
 use crate::words::word_at;
@@ -42,6 +44,7 @@ pub enum Outcome {
 // The operand whose base stands at an index, with its strides behind it.
 fn operand_at(call: &[u64], base: usize) -> Operand
     requires { ⌜ base ≤ 10 ⌝ }
+    ensures { λ r. ⌜ r ≡ operandAt (now (call .entry)) base ⌝ }
 {
     Operand {
         base: word_at(call, base) as usize,
@@ -51,7 +54,9 @@ fn operand_at(call: &[u64], base: usize) -> Operand
 }
 
 // The sizes of a call and where its matrices lie.
-pub fn matrices_of(call: &[u64]) -> Matrices {
+pub fn matrices_of(call: &[u64]) -> Matrices
+    ensures { λ r. ⌜ r ≡ matricesOf (now (call .entry)) ⌝ }
+{
     Matrices {
         m: word_at(call, 1) as usize,
         k: word_at(call, 2) as usize,

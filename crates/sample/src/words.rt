@@ -1,7 +1,7 @@
 // The file as words: eight bytes each, the lowest first.
 ghost use mathlib.Core.Path.{_≡_};
 ghost use Prim.Native.Nat.{_*_, _≤_};
-ghost use lib.ListN.{length};
+ghost use lib.ListN.{length, getD, drop};
 ghost use mir.Syntax.{w64};
 ghost use mir.Val.{toZ};
 
@@ -38,7 +38,9 @@ pub fn from_bytes(bytes: &[u8], words: &mut [u64])
 }
 
 // The word at an index, 0 past the end.
-pub fn word_at(words: &[u64], i: usize) -> u64 {
+pub fn word_at(words: &[u64], i: usize) -> u64
+    ensures { λ r. ⌜ r ≡ getD (now (words .entry)) i 0 ⌝ }
+{
     if i < words.len() {
         return words[i];
     }
@@ -46,7 +48,9 @@ pub fn word_at(words: &[u64], i: usize) -> u64 {
 }
 
 // The words after the first n, none where there are fewer.
-pub fn after(words: &[u64], n: usize) -> &[u64] {
+pub fn after(words: &[u64], n: usize) -> &[u64]
+    ensures { λ r. ⌜ now r ≡ drop n (now (words .entry)) ⌝ }
+{
     if n < words.len() {
         return &words[n..];
     }
