@@ -103,7 +103,7 @@ fn show_need() {
     show::text(b"\n\n");
 }
 
-// An inverter is flashed where it is ready; a gap is not.
+// The rule of six o'clock: no comparison with a gap holds.
 fn show_pick(scores: &Scores, i: usize)
     requires { ⌜ i < 4 ⌝ }
 {
@@ -168,7 +168,9 @@ fn main() {
     show_answer(scored(&correction, 1.0, &mut scores, 1));
     show::text(b"  nothing was stored:\n");
     show_scores(&scores);
-    show::text(b"\nSix o'clock:\n");
+    show::text(
+        b"\nSix o'clock: an inverter is flashed where its ready score is above 100; a gap is not\n",
+    );
     show_pick(&scores, 0);
     show_pick(&scores, 1);
     show_pick(&scores, 2);

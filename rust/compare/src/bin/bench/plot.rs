@@ -4,7 +4,7 @@ use crate::Measured;
 use std::fmt::Write;
 
 const KINDS: [&str; 4] = ["sgemm", "dgemm", "cgemm", "zgemm"];
-const COLOURS: [&str; 3] = ["#1b6ca8", "#c8553d", "#6a994e"];
+const COLOURS: [&str; 4] = ["#1b6ca8", "#c8553d", "#6a994e", "#8a8a8a"];
 const WIDE: f64 = 560.0;
 const HIGH: f64 = 250.0;
 
@@ -14,10 +14,10 @@ pub fn page(shapes: &[Measured], growth: &[Measured]) -> String {
     let (width, height) = (2.0 * WIDE + 40.0, 4.0 * HIGH + 150.0);
     out.push_str(r##"<svg xmlns="http://www.w3.org/2000/svg" font-family="sans-serif" font-size="11" "##);
     write!(out, r##"width="{width}" height="{height}"><rect width="100%" height="100%" fill="#fff"/>"##).unwrap();
-    text(&mut out, 20.0, 24.0, "start", 15, "Time of ours over the others', by shape (below the line: ours is faster)");
-    legend(&mut out, 20.0, 40.0, &[("over plain Rust (a)", COLOURS[1]), ("over the fallback (b)", COLOURS[2])]);
+    text(&mut out, 20.0, 24.0, "start", 15, "Time of ours over the others', by shape (logarithmic; below the dark line ours is faster)");
+    legend(&mut out, 20.0, 40.0, &[("over plain Rust (a)", COLOURS[1]), ("over the fallback (b)", COLOURS[2]), ("over the default build (c)", COLOURS[3])]);
     text(&mut out, 20.0, 2.0 * HIGH + 84.0, "start", 15, "Nanoseconds a multiply-add over the side of a square (both scales logarithmic)");
-    legend(&mut out, 20.0, 2.0 * HIGH + 100.0, &[("ours", COLOURS[0]), ("plain Rust (a)", COLOURS[1]), ("fallback (b)", COLOURS[2])]);
+    legend(&mut out, 20.0, 2.0 * HIGH + 100.0, &[("ours", COLOURS[0]), ("plain Rust (a)", COLOURS[1]), ("fallback (b)", COLOURS[2]), ("default build (c)", COLOURS[3])]);
     for (i, kind) in KINDS.iter().enumerate() {
         let (x, y) = (20.0 + (i % 2) as f64 * WIDE, 50.0 + (i / 2) as f64 * HIGH);
         let of_kind = |all: &'_ [Measured]| -> Vec<usize> { (0..all.len()).filter(|&j| all[j].kind == *kind).collect() };
@@ -48,17 +48,17 @@ fn legend(out: &mut String, x: f64, y: f64, entries: &[(&str, &str)]) {
     }
 }
 
-/// Height of a ratio between 0.5 and 2 in a panel; what is beyond stands at the edge.
+/// Height of a ratio between a quarter and sixteen in a panel; what is beyond stands at the edge.
 fn ratio_height(y: f64, ratio: f64) -> f64 {
-    y + HIGH - 75.0 - (ratio.clamp(0.5, 2.0) - 0.5) / 1.5 * (HIGH - 105.0)
+    y + HIGH - 75.0 - (ratio.clamp(0.25, 16.0).log2() + 2.0) / 6.0 * (HIGH - 105.0)
 }
 
 fn ratios(out: &mut String, x: f64, y: f64, kind: &str, all: &[&Measured]) {
     text(out, x + 30.0, y + 18.0, "start", 13, kind);
-    for ratio in [0.5, 0.75, 1.0, 1.25, 1.5, 1.75, 2.0] {
+    for ratio in [0.25, 0.5, 1.0, 2.0, 4.0, 8.0, 16.0] {
         let h = ratio_height(y, ratio);
         line(out, [x + 30.0, h, x + WIDE - 20.0, h], if ratio == 1.0 { "#222" } else { "#ddd" });
-        text(out, x + 26.0, h + 4.0, "end", 10, &format!("{ratio:.2}"));
+        text(out, x + 26.0, h + 4.0, "end", 10, &format!("{ratio}"));
     }
     let step = (WIDE - 60.0) / all.len().max(1) as f64;
     for (i, m) in all.iter().enumerate() {
