@@ -132,12 +132,21 @@ fn flock(_file: &File, _wait: bool) -> bool {
 
 /// One sentence before the linker's many, where the library has another interface than this crate.
 fn same_interface(library: &Path) {
-    let name = format!("{INTERFACE}\0");
-    let bytes = fs::read(library).unwrap_or_else(|e| stop(&format!("{} could not be read: {e}", library.display())));
-    if !bytes.windows(name.len()).any(|part| part == name.as_bytes()) {
+    let archive = fs::read(library).unwrap_or_else(|e| stop(&format!("{} could not be read: {e}", library.display())));
+    if names(&archive).is_some_and(|mut names| !names.any(|name| name == INTERFACE.as_bytes())) {
         let library = library.display();
         stop(&format!("{library} has another interface than this crate, which needs {INTERFACE}: take both from one version"));
     }
+}
+
+/// The names in an archive's index, where it has one of the usual form: the first member, called `/`. Its header of 60
+/// bytes ends with its size; then come a count of 4 bytes, as many offsets of 4, and the names, each with a 0 after it.
+fn names(archive: &[u8]) -> Option<impl Iterator<Item = &[u8]>> {
+    let header = archive.strip_prefix(b"!<arch>\n/ ")?.get(..58)?;
+    let size: usize = std::str::from_utf8(&header[46..56]).ok()?.trim().parse().ok()?;
+    let index = archive.get(68..)?.get(..size)?;
+    let count = u32::from_be_bytes(index.get(..4)?.try_into().ok()?) as usize;
+    Some(index.get(4 + 4 * count..)?.split(|&byte| byte == 0))
 }
 
 fn is_old(library: &Path, crates: &Path) -> bool {
@@ -164,7 +173,7 @@ fn say(what: &str) {
     eprintln!("hewnspandrel: {what}");
     if let Ok(mut terminal) = OpenOptions::new().write(true).open("/dev/tty") {
         // cargo's progress bar stands on the line
-        let _ = write!(terminal, "\r\x1b[Khewnspandrel: {what}\r\n");
+        let _ = write!(terminal, "\r\x1b[Khewnspandrel: {what}\n");
     }
 }
 
