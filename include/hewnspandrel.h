@@ -26,9 +26,9 @@
        pointer will do, NULL too;
      - C and the pack buffer overlap nothing else of the call, nor each other; A and B may overlap or be one slice;
      - nobody else writes to the slices of a call, or reads C or the pack buffer, while it runs;
-     - the thread's floating-point environment is the one that a program starts with: rounding to nearest, subnormal
-       numbers kept, no exception trapped. A program linked by gcc with -ffast-math flushes subnormal numbers to zero from its
-       start. In such an environment, or with another rounding mode, C may get other bits.
+     - the thread's floating-point environment is the ordinary one: rounding to nearest, subnormal numbers kept, no exception
+       trapped. In another one C may get other bits. A program that gcc or clang links with -ffast-math has another one from
+       its start: it flushes subnormal numbers to zero.
    Any sizes, strides and bases get an answer.
 
    After a call that is done, the first need elements of the pack buffer may hold anything; the rest is unchanged, and all

@@ -71,8 +71,8 @@
 //! # The floating-point environment
 //!
 //! The bits are those of rounding to nearest, with subnormal numbers kept, as a Rust program has it. Where a thread has
-//! set another rounding mode or flushes subnormals to zero (a program linked by gcc with `-ffast-math` does so from its start),
-//! a call may leave other bits in C.
+//! set another rounding mode, or flushes subnormal numbers to zero (a program that gcc or clang links with `-ffast-math` does
+//! so from its start), C may get other bits.
 #![deny(missing_docs)]
 #![warn(clippy::undocumented_unsafe_blocks, clippy::missing_errors_doc)]
 
