@@ -78,7 +78,7 @@ fn made() -> PathBuf {
 }
 
 fn make(repository: &Path, cause: &str, lock: File) {
-    say(&format!("{cause}, so `rt staticlib hewnspandrel` proves and builds it now: five to ten minutes"));
+    say(&format!("{cause}, so `rt staticlib hewnspandrel` makes it now: five to ten minutes where nothing is proved yet"));
     let way_out = format!("or set HEWNSPANDREL_LIB to a folder that has {LIBRARY}, which is then taken as it is");
     let mut rt = Command::new("rt");
     rt.args(["staticlib", "hewnspandrel"]).current_dir(repository);

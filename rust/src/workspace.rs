@@ -25,8 +25,8 @@ impl Real for f64 {
 /// to no more; it never shrinks. A refused call leaves it as it is.
 ///
 /// The calls answer as the functions of the same name do with a pack buffer that is long enough, so never
-/// [`Refusal::PackShort`]. Growing takes memory as a `Vec` does: at most 2,228,224 bytes, and where the machine has
-/// none to give, the program ends as it does for a `Vec`.
+/// [`Refusal::PackShort`]. The buffer is a `Vec`: where there is no memory for it, the program ends as it does for a `Vec`. No
+/// call makes it longer than 2,228,224 bytes.
 ///
 /// ```
 /// use hewnspandrel::{Operand, Workspace};
