@@ -6,6 +6,7 @@
 #include "hewnspandrel.h"
 #include <stdio.h>
 #include <stdlib.h>
+#include <string.h>
 
 int main(void) {
     /* C = A B, row by row */
@@ -14,19 +15,20 @@ int main(void) {
     double c[4];
     hewn_operand la = {0, 3, 1}, lb = {0, 2, 1}, lc = {0, 2, 1};
 
+    /* sizes in the order m, k, n */
     hewn_length need = hewn_dgemm_need(2, 3, 2);
-    if (need.answer != 0) return 1;
+    if (need.answer != HEWN_DONE || need.elements > HEWN_DGEMM_MAX_NEED) return 1;
     double *pack = malloc(need.elements * sizeof *pack);
     if (pack == NULL) return 1;
 
     uint64_t answer = hewn_dgemm(2, 3, 2, 1.0, a, 6, la, b, 6, lb, 0.0, c, 4, lc, pack, need.elements);
-    printf("answer %llu: %g %g %g %g\n", (unsigned long long)answer, c[0], c[1], c[2], c[3]);
-    if (answer != 0 || c[0] != 4 || c[1] != 5 || c[2] != 10 || c[3] != 11) return 1;
+    printf("%s: %g %g %g %g\n", hewn_answer_text(answer), c[0], c[1], c[2], c[3]);
+    if (answer != HEWN_DONE || c[0] != 4 || c[1] != 5 || c[2] != 10 || c[3] != 11) return 1;
 
     /* A of five numbers does not hold 2 by 3: refused, and C stays */
     answer = hewn_dgemm(2, 3, 2, 1.0, a, 5, la, b, 6, lb, 0.0, c, 4, lc, pack, need.elements);
-    printf("answer %llu: %g %g %g %g\n", (unsigned long long)answer, c[0], c[1], c[2], c[3]);
-    if (answer != 5 || c[0] != 4) return 1;
+    printf("%s: %g %g %g %g\n", hewn_answer_text(answer), c[0], c[1], c[2], c[3]);
+    if (answer != HEWN_OUTSIDE_A || c[0] != 4 || c[1] != 5 || c[2] != 10 || c[3] != 11) return 1;
     free(pack);
 
     /* complex: (1 + 2i)(3 + 4i) times i; A and B may be one slice */
@@ -36,9 +38,21 @@ int main(void) {
     hewn_complex32 i = {0, 1}, zero = {0, 0};
     if (2 * hewn_cgemm_need(1, 1, 1).elements > sizeof zpack / sizeof *zpack) return 1;
     answer = hewn_cgemm(1, 1, 1, i, x, 4, first, x, 4, second, zero, z, 2, first, zpack, 12);
-    printf("answer %llu: %g%+gi\n", (unsigned long long)answer, z[0], z[1]);
-    if (answer != 0 || z[0] != -10 || z[1] != -5) return 1;
+    printf("%s: %g%+gi\n", hewn_answer_text(answer), z[0], z[1]);
+    if (answer != HEWN_DONE || z[0] != -10 || z[1] != -5) return 1;
+
+    /* each answer has its own words */
+    for (uint64_t x = HEWN_DONE; x <= HEWN_PACK_SHORT; x++)
+        for (uint64_t y = 0; y < x; y++)
+            if (strcmp(hewn_answer_text(x), hewn_answer_text(y)) == 0) return 1;
+
+    /* the largest needs */
+    if (hewn_sgemm_need(65536, 65536, 65536).elements != HEWN_SGEMM_MAX_NEED) return 1;
+    if (hewn_dgemm_need(65536, 65536, 65536).elements != HEWN_DGEMM_MAX_NEED) return 1;
+    if (hewn_cgemm_need(65536, 65536, 65536).elements != HEWN_CGEMM_MAX_NEED) return 1;
+    if (hewn_zgemm_need(65536, 65536, 65536).elements != HEWN_ZGEMM_MAX_NEED) return 1;
+    if (hewn_zgemm_need(65537, 0, 0).answer != HEWN_TOO_LARGE) return 1;
 
     /* nothing to do: any pointers */
-    return hewn_sgemm(0, 1, 1, 1.0f, NULL, 0, first, NULL, 0, first, 0.0f, NULL, 0, first, NULL, 0) == 0 ? 0 : 1;
+    return hewn_sgemm(0, 1, 1, 1.0f, NULL, 0, first, NULL, 0, first, 0.0f, NULL, 0, first, NULL, 0) == HEWN_DONE ? 0 : 1;
 }

@@ -9,11 +9,12 @@ use hewnspandrel::{dgemm, dgemm_need, Operand, Refusal};
 fn weighted(scores: &mut [f64], panel: &[f64], weights: &[f64], rows: usize, columns: usize) -> Result<(), Refusal> {
     // A pointer and two strides become a slice, a base and the two strides. Where the old pointer was moved into the slice,
     // the base says by how many elements.
-    let row_major = Operand { base: 0, rs: columns as isize, cs: 1 };
+    let by_rows = Operand::row_major(columns);
+    let column = Operand::column_major(rows);
     // weights are stored backwards: the pointer stood at the last one
     let backwards = Operand { base: columns - 1, rs: -1, cs: 1 };
-    let column = Operand { base: 0, rs: 1, cs: 1 };
-    // The old crate allocated the pack buffer in each call. Ours is lent, so it can be kept from call to call.
+    // The old crate allocated the pack buffer in each call. Ours is lent, so it can be kept from call to call, or left to a
+    // `Workspace`.
     let mut pack = vec![0.0; dgemm_need(rows, columns, 1)?];
 
     // unsafe {
@@ -24,12 +25,12 @@ fn weighted(scores: &mut [f64], panel: &[f64], weights: &[f64], rows: usize, col
         //     1.0,
         1.0,
         //     panel.as_ptr(), columns as isize, 1,
-        panel, row_major,
+        panel, by_rows,
         //     weights.as_ptr().add(columns - 1), -1, 1,
         weights, backwards,
         //     1.0,
         1.0,
-        //     scores.as_mut_ptr(), 1, 1,
+        //     scores.as_mut_ptr(), 1, rows as isize,
         scores, column,
         //     );
         // }

@@ -3,15 +3,21 @@ use crate::{foreign, Operand, Refusal};
 macro_rules! kind {
     (
         $(#[$call_words:meta])* $call:ident, $(#[$need_words:meta])* $need:ident,
+        $(#[$max_words:meta])* $max:ident = $most:expr,
         $foreign_call:ident, $foreign_need:ident, $real:ty, $number:ty
     ) => {
         $(#[$call_words])*
+        ///
+        /// # Errors
+        ///
+        /// The first [`Refusal`] that applies; nothing has been stored then, in C or in the pack buffer.
         #[allow(clippy::too_many_arguments)]
         pub fn $call(
             m: usize, k: usize, n: usize, alpha: $number,
             a: &[$real], la: Operand, b: &[$real], lb: Operand, beta: $number,
             c: &mut [$real], lc: Operand, pack: &mut [$real],
         ) -> Result<(), Refusal> {
+            foreign::same_interface();
             // SAFETY: each pointer and length is one valid slice; c and pack are `&mut`, so they overlap nothing; the
             // proved function requires nothing else of its caller.
             Refusal::of_answer(unsafe {
@@ -24,20 +30,28 @@ macro_rules! kind {
         }
 
         $(#[$need_words])*
+        ///
+        /// # Errors
+        ///
+        /// [`Refusal::TooLarge`] where m, k or n is above 65,536, even where another is zero.
         pub fn $need(m: usize, k: usize, n: usize) -> Result<usize, Refusal> {
+            foreign::same_interface();
             // SAFETY: numbers in, numbers out.
             let length = unsafe { foreign::$foreign_need(m, k, n) };
             Refusal::of_answer(length.answer).map(|()| length.elements)
         }
+
+        $(#[$max_words])*
+        pub const $max: usize = $most;
     };
 }
 
 kind! {
-    /// C ← α A B + β C for f32. A is m by k, B is k by n, C is m by n. Where β is zero, old C is not read.
+    /// C ← α A B + β C for f32. A is m by k, B is k by n, C is m by n. Where β is zero, old C is ignored.
     ///
     /// ```
     /// use hewnspandrel::{sgemm, sgemm_need, Operand};
-    /// let rows = Operand { base: 0, rs: 2, cs: 1 };
+    /// let rows = Operand::row_major(2);
     /// let (a, b) = ([1.0, 2.0, 3.0, 4.0], [5.0, 6.0, 7.0, 8.0]);
     /// let mut c = [f32::NAN; 4];
     /// let mut pack = vec![0.0; sgemm_need(2, 2, 2)?];
@@ -46,7 +60,7 @@ kind! {
     /// # Ok::<(), hewnspandrel::Refusal>(())
     /// ```
     sgemm,
-    /// How many f32 the pack buffer of [`sgemm`] must have. Refused only with [`Refusal::TooLarge`].
+    /// How many f32 the pack buffer of [`sgemm`] must have.
     ///
     /// ```
     /// use hewnspandrel::{sgemm_need, Refusal};
@@ -55,17 +69,19 @@ kind! {
     /// assert_eq!(sgemm_need(0, 65_537, 5), Err(Refusal::TooLarge));
     /// ```
     sgemm_need,
+    /// The largest need of [`sgemm`], in f32: as much as 65,536 cubed takes.
+    SGEMM_MAX_NEED = 278_528,
     hewn_sgemm, hewn_sgemm_need, f32, f32
 }
 
 kind! {
-    /// C ← α A B + β C for f64. A is m by k, B is k by n, C is m by n. Where β is zero, old C is not read.
+    /// C ← α A B + β C for f64. A is m by k, B is k by n, C is m by n. Where β is zero, old C is ignored.
     ///
     /// ```
     /// use hewnspandrel::{dgemm, dgemm_need, Operand};
     /// // C is stored from its last place to its first
     /// let (a, b) = ([1.0, 2.0, 3.0], [2.0]);
-    /// let down = Operand { base: 0, rs: 1, cs: 1 };
+    /// let down = Operand::row_major(1);
     /// let up = Operand { base: 2, rs: -1, cs: 1 };
     /// let mut c = [0.5; 3];
     /// let mut pack = vec![0.0; dgemm_need(3, 1, 1)?];
@@ -74,7 +90,7 @@ kind! {
     /// # Ok::<(), hewnspandrel::Refusal>(())
     /// ```
     dgemm,
-    /// How many f64 the pack buffer of [`dgemm`] must have. Refused only with [`Refusal::TooLarge`].
+    /// How many f64 the pack buffer of [`dgemm`] must have.
     ///
     /// ```
     /// use hewnspandrel::dgemm_need;
@@ -82,17 +98,19 @@ kind! {
     /// assert_eq!(dgemm_need(65_536, 65_536, 65_536), Ok(278_528));
     /// ```
     dgemm_need,
+    /// The largest need of [`dgemm`], in f64: as much as 65,536 cubed takes.
+    DGEMM_MAX_NEED = 278_528,
     hewn_dgemm, hewn_dgemm_need, f64, f64
 }
 
 kind! {
     /// C ← α A B + β C for complex f32, two reals an element. A is m by k, B is k by n, C is m by n. Where β is zero, old
-    /// C is not read.
+    /// C is ignored.
     ///
     /// ```
     /// use hewnspandrel::{cgemm, cgemm_need, Operand};
     /// // (1 + 2i)(3 + 4i) i
-    /// let one = Operand { base: 0, rs: 1, cs: 1 };
+    /// let one = Operand::row_major(1);
     /// let mut c = [f32::NAN; 2];
     /// let mut pack = vec![0.0; 2 * cgemm_need(1, 1, 1)?];
     /// cgemm(1, 1, 1, [0.0, 1.0], &[1.0, 2.0], one, &[3.0, 4.0], one, [0.0, 0.0], &mut c, one, &mut pack)?;
@@ -100,27 +118,26 @@ kind! {
     /// # Ok::<(), hewnspandrel::Refusal>(())
     /// ```
     cgemm,
-    /// How many complex elements, two f32 each, the pack buffer of [`cgemm`] must have. Refused only with
-    /// [`Refusal::TooLarge`].
+    /// How many complex elements, two f32 each, the pack buffer of [`cgemm`] must have.
     ///
     /// ```
     /// use hewnspandrel::cgemm_need;
-    /// assert_eq!(cgemm_need(1, 1, 1), Ok(6));
-    /// let pack = vec![0.0f32; 2 * 6];
-    /// # let _ = pack;
+    /// assert_eq!(cgemm_need(1, 1, 1), Ok(6)); // twelve f32
     /// ```
     cgemm_need,
+    /// The largest need of [`cgemm`], in complex elements of two f32 each: as much as 65,536 cubed takes.
+    CGEMM_MAX_NEED = 139_264,
     hewn_cgemm, hewn_cgemm_need, f32, [f32; 2]
 }
 
 kind! {
     /// C ← α A B + β C for complex f64, two reals an element. A is m by k, B is k by n, C is m by n. Where β is zero, old
-    /// C is not read.
+    /// C is ignored.
     ///
     /// ```
     /// use hewnspandrel::{zgemm, zgemm_need, Operand};
     /// // a column of two times a row of one, added to what stands there
-    /// let column = Operand { base: 0, rs: 1, cs: 2 };
+    /// let column = Operand::column_major(2);
     /// let a = [0.0, 1.0, 2.0, 0.0];
     /// let mut c = [1.0, 0.0, 0.0, 0.0];
     /// let mut pack = vec![0.0; 2 * zgemm_need(2, 1, 1)?];
@@ -129,13 +146,14 @@ kind! {
     /// # Ok::<(), hewnspandrel::Refusal>(())
     /// ```
     zgemm,
-    /// How many complex elements, two f64 each, the pack buffer of [`zgemm`] must have. Refused only with
-    /// [`Refusal::TooLarge`].
+    /// How many complex elements, two f64 each, the pack buffer of [`zgemm`] must have.
     ///
     /// ```
     /// use hewnspandrel::zgemm_need;
     /// assert_eq!(zgemm_need(65_536, 65_536, 65_536), Ok(139_264));
     /// ```
     zgemm_need,
+    /// The largest need of [`zgemm`], in complex elements of two f64 each: as much as 65,536 cubed takes.
+    ZGEMM_MAX_NEED = 139_264,
     hewn_zgemm, hewn_zgemm_need, f64, [f64; 2]
 }

@@ -2,6 +2,19 @@
 
 use crate::Operand;
 
+extern "C" {
+    /// Named after the interface's version, so that an archive with another one does not link with this crate.
+    fn hewn_interface_1() -> u64;
+}
+
+/// Has the linker look for the interface's version. Each function of this crate calls it before it calls the archive: no
+/// optimiser can leave out a call to foreign code, as it can a mere mention of its name.
+#[inline]
+pub fn same_interface() {
+    // SAFETY: numbers only.
+    unsafe { hewn_interface_1() };
+}
+
 /// A complex number, by value.
 #[repr(C)]
 pub struct Complex<R> {

@@ -1,5 +1,5 @@
 //! General matrix multiplication, C ← α A B + β C, for f32, f64 and complex matrices, with the bits of the crate
-//! matrixmultiply 0.3.11 where it fuses nothing, from a library that is proved in Rattle.
+//! matrixmultiply 0.3.11 where it fuses nothing, from a library that is proved in Rattle. For x86-64 Linux.
 //!
 //! Any sizes, strides, bases and slices get an answer: the call is done, or it is refused with the first [`Refusal`] that
 //! applies, and then nothing has been stored in C or in the pack buffer. No call panics.
@@ -9,12 +9,53 @@
 //! Each of A (m by k), B (k by n) and C (m by n) is a slice and an [`Operand`]: the element where place (0,0) lies, and the
 //! two strides. Strides may be negative; those of A and B may be zero. In the slices of [`cgemm`] and [`zgemm`] a complex
 //! element is two neighbouring reals, real part first; bases and strides count whole elements, and a lone last real is
-//! never touched.
+//! never touched. The sizes come in matrixmultiply's order, m, k, n, and not in that of BLAS.
 //!
 //! # The pack buffer
 //!
 //! The caller lends the memory that A and B are packed into, at least as many elements as [`sgemm_need`] and its siblings
 //! say (two reals each for the complex kinds). Its first need elements hold anything afterwards; the others are unchanged.
+//! A [`Workspace`] owns such a buffer and lets it grow.
+//!
+//! # Slices of complex numbers
+//!
+//! Pairs are lent as they are, by the standard library's `as_flattened`:
+//!
+//! ```
+//! use hewnspandrel::{Operand, Workspace};
+//! let one = Operand::row_major(1);
+//! let (a, b, mut c) = ([[0.0, 1.0]], [[2.0, 3.0]], [[0.0; 2]]);
+//! Workspace::<f64>::new().zgemm(
+//!     1, 1, 1, [1.0, 0.0], a.as_flattened(), one, b.as_flattened(), one, [0.0, 0.0], c.as_flattened_mut(), one,
+//! )?;
+//! assert_eq!(c, [[-3.0, 2.0]]);
+//! # Ok::<(), hewnspandrel::Refusal>(())
+//! ```
+//!
+//! A slice of a record of two reals, as num_complex's `Complex<f64>`, takes one conversion. It is sound for a record that
+//! is `#[repr(C)]` and has two fields of that real and nothing else, so that it lies in memory as a pair does:
+//!
+//! ```
+//! #[repr(C)] // as num_complex declares it
+//! pub struct Complex<T> {
+//!     pub re: T,
+//!     pub im: T,
+//! }
+//!
+//! pub fn reals(z: &[Complex<f64>]) -> &[f64] {
+//!     // SAFETY: a Complex<f64> is two f64 without padding, aligned as an f64; the lifetime is that of z.
+//!     unsafe { std::slice::from_raw_parts(z.as_ptr().cast(), 2 * z.len()) }
+//! }
+//!
+//! pub fn reals_mut(z: &mut [Complex<f64>]) -> &mut [f64] {
+//!     // SAFETY: as above, and z is borrowed for as long; any two f64 are a Complex<f64>.
+//!     unsafe { std::slice::from_raw_parts_mut(z.as_mut_ptr().cast(), 2 * z.len()) }
+//! }
+//! # let mut z = [Complex { re: 1.0, im: 2.0 }, Complex { re: 3.0, im: 4.0 }];
+//! # reals_mut(&mut z)[2] = 5.0;
+//! # assert_eq!(reals(&z), [1.0, 2.0, 5.0, 4.0]);
+//! # assert_eq!((z[1].re, z[1].im), (5.0, 4.0));
+//! ```
 //!
 //! # What a mutable slice rules out
 //!
@@ -23,41 +64,38 @@
 //! ```compile_fail,E0502
 //! use hewnspandrel::{sgemm, Operand};
 //! let mut c = [0.0f32; 4];
-//! let l = Operand { base: 0, rs: 2, cs: 1 };
+//! let l = Operand::row_major(2);
 //! sgemm(2, 2, 2, 1.0, &c, l, &[1.0; 4], l, 0.0, &mut c, l, &mut [0.0; 32]).unwrap();
 //! ```
+//!
+//! # The floating-point environment
+//!
+//! The bits are those of rounding to nearest, with subnormal numbers kept, as a Rust program has it. Where a thread has
+//! set another rounding mode, or flushes subnormal numbers to zero (a program that gcc or clang links with `-ffast-math` does
+//! so from its start), C may get other bits.
 #![deny(missing_docs)]
-#![warn(clippy::undocumented_unsafe_blocks)]
+#![warn(clippy::undocumented_unsafe_blocks, clippy::missing_errors_doc)]
 
 mod calls;
 mod foreign;
+mod operand;
 mod refusal;
+mod workspace;
 
-pub use calls::{cgemm, cgemm_need, dgemm, dgemm_need, sgemm, sgemm_need, zgemm, zgemm_need};
+pub use calls::{cgemm, cgemm_need, CGEMM_MAX_NEED};
+pub use calls::{dgemm, dgemm_need, DGEMM_MAX_NEED};
+pub use calls::{sgemm, sgemm_need, SGEMM_MAX_NEED};
+pub use calls::{zgemm, zgemm_need, ZGEMM_MAX_NEED};
+pub use operand::Operand;
 pub use refusal::Refusal;
+pub use workspace::{Real, Workspace};
 
-/// The README's example is compiled and run with the others.
+/// The README's examples are compiled and run with the others.
 #[cfg(doctest)]
 #[doc = include_str!("../../README.md")]
 struct Readme;
 
-/// Where place (0,0) of a matrix lies in its slice, and the two strides, in whole elements. Place (i,j) is the element
-/// base + i rs + j cs, counted in whole numbers: nothing wraps.
-///
-/// ```
-/// use hewnspandrel::Operand;
-/// // a matrix of 3 columns, row by row, and the same slice read as its transpose
-/// let rows = Operand { base: 0, rs: 3, cs: 1 };
-/// let transpose = Operand { rs: rows.cs, cs: rows.rs, ..rows };
-/// assert_eq!(transpose, Operand { base: 0, rs: 1, cs: 3 });
-/// ```
-#[derive(Clone, Copy, Debug, PartialEq, Eq)]
-#[repr(C)]
-pub struct Operand {
-    /// The element of place (0,0).
-    pub base: usize,
-    /// Row stride: from one row to the next.
-    pub rs: isize,
-    /// Column stride: from one column to the next.
-    pub cs: isize,
-}
+/// So are the guide's.
+#[cfg(doctest)]
+#[doc = include_str!("../../docs/GUIDE.md")]
+struct Guide;

@@ -1,17 +1,19 @@
 use std::error::Error;
 use std::fmt;
 
-/// Why a call was refused, in the order in which the causes are looked for. Nothing has been stored.
+/// Why a call was refused, in the order in which the causes are looked for. Nothing has been stored. A later version
+/// may have more causes, so a `match` needs an arm for the others.
 ///
 /// ```
 /// use hewnspandrel::{dgemm, Operand, Refusal};
-/// let l = Operand { base: 0, rs: 1, cs: 1 };
+/// let l = Operand::row_major(1);
 /// let refused = dgemm(1, 1, 1, 1.0, &[2.0], l, &[3.0], l, 0.0, &mut [], l, &mut [0.0; 8]).unwrap_err();
 /// assert_eq!(refused, Refusal::OutsideC);
 /// assert_eq!(refused.number(), 3);
 /// assert_eq!(refused.to_string(), "a place of C is outside C's slice");
 /// ```
 #[derive(Clone, Copy, Debug, PartialEq, Eq, Hash)]
+#[non_exhaustive]
 pub enum Refusal {
     /// 1: m, k or n is above 65,536.
     TooLarge,
@@ -41,6 +43,7 @@ impl Refusal {
     ];
 
     /// The refusal's number, 1 to 7; C callers see the same numbers.
+    #[must_use]
     pub fn number(self) -> u32 {
         self as u32 + 1
     }

@@ -2,6 +2,7 @@
 // include/hewnspandrel.h declares these functions. Rust: lib.rs.
 pub mod complex32;
 pub mod complex64;
+pub mod interface;
 pub mod length;
 pub mod real32;
 pub mod real64;

@@ -1,7 +1,10 @@
 //! Hewnspandrel held against the crate matrixmultiply 0.3.11 (the oracle) and against document 01 written out once more.
 
-#[cfg(any(target_feature = "avx", target_feature = "fma", target_arch = "aarch64", target_feature = "simd128"))]
-compile_error!("the oracle would choose a vector kernel here, whose bits differ: build for plain x86-64");
+#[cfg(not(all(target_arch = "x86_64", target_os = "linux")))]
+compile_error!("the target of this build is not x86-64 Linux, the only one that the proved library is for");
+
+#[cfg(any(target_feature = "avx", target_feature = "fma"))]
+compile_error!("the target's features let the oracle choose a vector kernel, whose bits differ: build for plain x86-64");
 
 pub mod check;
 pub mod kind;
