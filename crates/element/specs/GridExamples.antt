@@ -57,6 +57,7 @@ along kc m n k hm hn c even = record {
 abbrev pub one-cell : (kc m n k : ℕ) → 0 < m → 0 < n → 0 < k → Grid kc m n k
 one-cell kc m n k hm hn hk = along kc m n k hm hn (uncut k hk) (λ s h. absurd (let z : ⊥ = omega arith in z))
 
+-- it is run in one turn
 one-cell-turns : (kc m n k : ℕ) (hm : 0 < m) (hn : 0 < n) (hk : 0 < k) → one-cell kc m n k hm hn hk .turns ≡ 1
 one-cell-turns kc m n k hm hn hk = refl
 
@@ -64,6 +65,7 @@ one-cell-turns kc m n k hm hn hk = refl
 abbrev pub depth-257 : Cut 257
 depth-257 = cut-at 256 257 (omega arith) (omega arith)
 
+-- its first stretch is a multiple
 pub even-257 : (s : ℕ) → suc s < 2 → (q : ℕ) × (edges-at 256 257 (suc s) ≡ edges-at 256 257 s + q * 256)
 even-257 zero h = (1, refl)
 even-257 (suc s) h = absurd (let z : ⊥ = omega arith in z)
@@ -72,11 +74,12 @@ even-257 (suc s) h = absurd (let z : ⊥ = omega arith in z)
 abbrev pub two-stretches : (m n : ℕ) → 0 < m → 0 < n → Grid 256 m n 257
 two-stretches m n hm hn = along 256 m n 257 hm hn depth-257 even-257
 
+-- it is run in two turns, from depth 0 and from depth 256
 two-stretches-turns : (m n : ℕ) (hm : 0 < m) (hn : 0 < n) → let g = two-stretches m n hm hn in
     (g .turns ≡ 2) × (g .depth .edge (g .stretch 0) ≡ 0) × (g .depth .edge (g .stretch 1) ≡ 256)
 two-stretches-turns m n hm hn = (refl, refl, refl)
 
--- two cells, one above the other, each with the same two stretches: turns 0 and 2 are the upper cell's, turns 1 and 3 the lower's
+-- two cells, one above the other, each with the same two stretches
 abbrev pub mixed : Grid 256 2 1 257
 mixed = record {
   rows = cut-at 1 2 (omega arith) (omega arith);
@@ -93,5 +96,6 @@ mixed = record {
   rising = λ t u l h er ec. omega arith;
 }
 
+-- turns 0 and 2 are the upper cell's, turns 1 and 3 the lower's
 mixed-turns : (mixed .row 0 ≡ 0) × (mixed .row 1 ≡ 1) × (mixed .row 2 ≡ 0) × (mixed .row 3 ≡ 1)
 mixed-turns = (refl, refl, refl, refl)
