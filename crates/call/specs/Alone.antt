@@ -17,7 +17,7 @@ elementOf {kind} q C i j = viewOf kind .get C (indexOf (q .c) i j)
 
 -- ---- document 01's words, of two calls q and r
 
--- "equal sizes, alpha, beta and any further setting that a later request lets a call name": such a setting becomes a field here
+-- "equal sizes, alpha, beta and any further setting": all that a call names but where its matrices lie
 pub record Alike {kind : Kind} (q r : Call kind) : Type 0 where
   pub m : q .m ≡ r .m
   pub k : q .k ≡ r .k
@@ -70,13 +70,17 @@ module _ {kind : Kind} (q r : Call kind) (alike : Alike q r) (A B C D A′ B′ 
 
 -- ---- document 01's paragraph
 
--- "Two accepted calls" with nothing else in common: their operands, slices and pack buffers are their own.
+-- "Two accepted calls" with nothing else in common: their operands, slices and pack buffers are their own. Equal numbers are asked for, which
+-- is less than equal bits: the logic has one NaN.
 module _ {kind : Kind} (q r : Call kind) (A B C D P Q A′ B′ C′ D′ P′ Q′ : List Float) (x y : Answer)
-    (one : Outcome kind q A B C D P Q x) (two : Outcome kind r A′ B′ C′ D′ P′ Q′ y) (accepted : numberOf x ≡ 0) (accepted′ : numberOf y ≡ 0) where
-  -- A ROW'S TROUBLE STAYS IN ITS ROW: "equal sizes, alpha, beta, B elements, and equal A elements and old C in row i, end with equal row i of C"
-  pub row-stays : (i : ℕ) → i < q .m → Alike q r → EqualB q r B B′ → EqualRowA q r A A′ i → EqualRowC q r C C′ i → EqualRowC q r D D′ i
+    (one : Outcome kind q A B C D P Q x) (two : Outcome kind r A′ B′ C′ D′ P′ Q′ y)
+    (accepted : numberOf x ≡ 0) (accepted′ : numberOf y ≡ 0) where
+  -- A ROW'S TROUBLE STAYS IN ITS ROW: "equal sizes, alpha, beta, B elements, and equal A elements and old C in row i, end with equal row i"
+  pub row-stays : (i : ℕ) → i < q .m → Alike q r → EqualB q r B B′ → EqualRowA q r A A′ i → EqualRowC q r C C′ i
+      → EqualRowC q r D D′ i
   row-stays i hi alike = row-alone q r alike A B C D A′ B′ C′ D′ (one .done accepted) (two .done accepted′) i hi
 
   -- "The same holds for columns and B."
-  pub column-stays : (j : ℕ) → j < q .n → Alike q r → EqualA q r A A′ → EqualColumnB q r B B′ j → EqualColumnC q r C C′ j → EqualColumnC q r D D′ j
+  pub column-stays : (j : ℕ) → j < q .n → Alike q r → EqualA q r A A′ → EqualColumnB q r B B′ j → EqualColumnC q r C C′ j
+      → EqualColumnC q r D D′ j
   column-stays j hj alike = column-alone q r alike A B C D A′ B′ C′ D′ (one .done accepted) (two .done accepted′) j hj
