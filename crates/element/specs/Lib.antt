@@ -6,6 +6,10 @@ pub mod Real32
 pub mod Real64
 pub mod Complex32
 pub mod Complex64
+pub mod Real32Laws
+pub mod Real64Laws
+pub mod Complex32Laws
+pub mod Complex64Laws
 pub mod ViewLaws
 pub mod SliceLaws
 pub mod StoreLaws
@@ -16,5 +20,6 @@ pub mod Chain
 pub mod CuttingTheorem
 pub mod Grid
 pub mod GridLaws
+pub mod GridExamples
 pub mod Runs
 pub mod RunLaws
