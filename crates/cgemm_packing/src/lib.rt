@@ -4,7 +4,7 @@ ghost use mathlib.Core.Path.{_≡_};
 ghost use Prim.Native.Nat.{_+_, _*_, _^_, _<_, _≤_};
 ghost use lib.ListN.{length};
 ghost use Rattle.element.specs.Element.{chunks};
-ghost use Rattle.element.specs.Complex32.{arith, view};
+ghost use Rattle.element.specs.Complex32.{arith, view, shape};
 ghost use Rattle.element.specs.Runs.{splice};
 ghost use Rattle.layout.specs.Operands.{Readable};
 ghost use Rattle.loops.specs.Panels.{complexPacking, half, singles, elem, padded, packedPanel, packed};
@@ -96,7 +96,7 @@ fn pack_panel(
 // All panels of m rows by kc depth steps, from the front of pack on; a ragged last panel is filled up with +0.
 pub fn pack(pack: &mut [Real], w: usize, kc: usize, m: usize, a: &[Real], la: Operand)
     requires { ⌜ Readable m kc la (view .count (length (now a))) ⌝ }
-    requires { ⌜ (chunks w m * (kc * complexPacking .floats w) ≤ length (now pack)) × (0 < w) × (w ≤ 8) ⌝ }
+    requires { ⌜ (chunks w m * (kc * complexPacking .floats w) ≤ length (now pack)) × (0 < w) × (w ≤ shape .mr) ⌝ }
     ensures { λ _. ⌜ now (pack .exit) ≡ splice (now (pack .entry)) 0 (packed complexPacking w kc (chunks w m) (padded arith m (elem view (now (a .entry)) la))) ⌝ }
 {
     let n = chunk_count(m, w);

@@ -5,8 +5,8 @@ ghost use mathlib.Core.Path.{_≡_};
 ghost use Prim.Native.Nat.{_+_, _*_, _<_, _≤_};
 ghost use lib.ListN.{length};
 ghost use Rattle.element.specs.Real64.{arith, shape};
-ghost use Rattle.loops.specs.Panels.{realPacking};
-ghost use Rattle.loops.specs.Tiles.{tab, float, at, line, cell, Same, stepped, summed};
+ghost use Rattle.loops.specs.Panels.{realPacking, padded};
+ghost use Rattle.loops.specs.Tiles.{tab, float, at, line, lines, cell, stepped, summed};
 ghost use Rattle.loops.specs.Work.{part};
 use element::real64::Real64;
 
@@ -118,11 +118,11 @@ fn row_times(alpha: Elem, t: &Columns, i: usize) -> Row
     row
 }
 
-// The first rows of the columns times alpha, as rows. The count keeps the columns apart until here: with all of them the compiler sums by
-// rows.
+// The first rows of the columns times alpha, as rows, and +0 in the others. The count keeps the columns apart until here: with all of them
+// the compiler sums by rows.
 fn times(alpha: Elem, t: Columns, rows: usize) -> Tile
     requires { ⌜ rows ≤ shape .mr ⌝ }
-    ensures { λ r. ⌜ Same rows (shape .nr) (cell float r) (λ i j. arith .mul alpha (cell float t j i)) ⌝ }
+    ensures { λ r. ⌜ r ≡ lines float (shape .mr) (shape .nr) (padded arith rows (λ i j. arith .mul alpha (cell float t j i))) ⌝ }
 {
     let mut tile = [[0.0; NR]; MR];
     let mut i = 0usize;
@@ -134,10 +134,11 @@ fn times(alpha: Elem, t: Columns, rows: usize) -> Tile
     tile
 }
 
-// Alpha times the product of two packed panels of depth kc: the first rows of the tile.
+// Alpha times the product of two packed panels of depth kc in the first rows of the tile, and +0 in the others.
 pub fn kernel(kc: usize, alpha: Elem, a: &[Elem], b: &[Elem], rows: usize) -> Tile
     requires { ⌜ (kc * shape .mr ≤ length (now a)) × (kc * shape .nr ≤ length (now b)) × (rows ≤ shape .mr) ⌝ }
-    ensures { λ r. ⌜ Same rows (shape .nr) (cell float r) (part arith alpha (realPacking .lane (now (a .entry)) (shape .mr)) (realPacking .lane (now (b .entry)) (shape .nr)) kc) ⌝ }
+    ensures { λ r. ⌜ r ≡ lines float (shape .mr) (shape .nr) (padded arith rows (
+        part arith alpha (realPacking .lane (now (a .entry)) (shape .mr)) (realPacking .lane (now (b .entry)) (shape .nr)) kc)) ⌝ }
 {
     times(alpha, sums(kc, a, b), rows)
 }

@@ -4,7 +4,6 @@ use mathlib.Core.List.{List, [], _∷_}
 use Prim.Native.Nat.{ℕ, zero, suc, _+_, _-_, _*_, _/_, _%_, _<_, _≤_}
 use native.Mathlib.Nat.{le-div-iff-mul-le, le-trans, div-mul-le-self, div-add-mod', div-lt-iff-lt-mul, mod-lt, mul-one, suc-mul, mul-le-mul-right, mul-add-div-right, mul-add-mod-self-right, div-eq-of-lt, mod-eq-of-lt, add-zero, zero-add}
 use native.Mathlib.Omega.{arith}
-use borrow.Author.Tests.{lt-ltb}
 use lib.ListN.{length, getD, take, drop, set, length-append, length-drop, List·getD-append}
 use lib.Seq.{getD-drop, getD-append-add, take-all}
 use lib.Ieee.{Float, Format, nan}
@@ -13,6 +12,7 @@ use Rattle.element.specs.Slice.{complexView}
 use Rattle.element.specs.Runs.{cat, splice}
 use Rattle.element.specs.RunLaws.{length-cat, length-splice, getD-cat, run-none, run-more, set-splice, splice-splice, cat-ext}
 use Rattle.loops.specs.Panels.{Packing, half, singles, realPacking, complexPacking, padded, packedPanel, packed, unpacked}
+use Rattle.loops.specs.TileLaws.{upTo-in}
 
 -- the next w fit where all of n times w do
 pub next-fits : (w : ℕ) {q n : ℕ} → q < n → q * w + w ≤ n * w
@@ -186,7 +186,7 @@ rest-long l k n h = rw (rest-all l k, length-drop k l) (omega arith)
 
 -- padding is past row m
 pub padded-in : (ar : Arith) (m : ℕ) (x : ℕ → ℕ → ar .E) (i p : ℕ) → i < m → padded ar m x i p ≡ x i p
-padded-in ar m x i p l = rw (lt-ltb i m l)
+padded-in ar m x i p l = upTo-in ar m (λ i. x i p) i l
 
 -- ---- the two halves of a complex element: of one that is read, and of the +0 that fills up
 

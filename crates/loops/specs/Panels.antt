@@ -1,8 +1,6 @@
 -- What packing writes, and how it is read back, for every kind. Definitions only.
 use Prim.Native.Nat.{ℕ, zero, suc, _+_, _*_, _/_, _%_}
 use mathlib.Core.List.{List, [], _∷_, _++_}
-use mathlib.Core.Bool.{cond}
-use lib.Dec.{ltb}
 use lib.ListN.{drop, getD}
 use lib.Ieee.{Float, nan}
 use Rattle.element.specs.Element.{Arith, Complex}
@@ -10,6 +8,7 @@ use Rattle.element.specs.Runs.{cat}
 use Rattle.element.specs.Slice.{View}
 use Rattle.layout.specs.declared.operand.Operand.{Operand}
 use Rattle.layout.specs.Place.{indexOf}
+use Rattle.loops.specs.Tiles.{upTo}
 
 -- How one depth step of a panel of width w lies in floats: how many there are, what they are where lane i holds g i, and lane i at depth p of a panel.
 pub record Packing (E : Type 0) : Type 0 where
@@ -38,12 +37,12 @@ complexPacking = record {
   lane = λ l w i p. record { re = getD l (p * (w + w) + i) nan; im = getD l (p * (w + w) + w + i) nan };
 }
 
--- the element of an operand at (i, p), and with +0 from row m on
+-- the element of an operand at (i, p); and x at (i, p), with +0 from row m on
 abbrev pub elem : {E : Type 0} → View E → List Float → Operand → ℕ → ℕ → E
 elem v s o i p = v .get s (indexOf o i p)
 
 abbrev pub padded : (ar : Arith) → ℕ → (ℕ → ℕ → ar .E) → ℕ → ℕ → ar .E
-padded ar m x i p = cond (ltb i m) (x i p) (ar .nought)
+padded ar m x i p = upTo ar m (λ i. x i p) i
 
 module _ {E : Type 0} (pk : Packing E) where
   -- one panel of kc depth steps whose first lane is row `first` of x; and n panels

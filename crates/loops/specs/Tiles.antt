@@ -1,7 +1,9 @@
--- Numbers and lines of them as the code holds them, a tile while it is summed, and arrays that a loop works through. Definitions only.
+-- Numbers and lines of them as the code holds them, a tile while it is summed, and arrays that a loop fills. Definitions only.
 use Prim.Native.Nat.{ℕ, zero, suc, _≤_, _<_}
 use mathlib.Core.Path.{_≡_, refl}
 use mathlib.Core.List.{List, [], _∷_}
+use mathlib.Core.Bool.{cond}
+use lib.Dec.{ltb}
 use lib.ListN.{length, getD}
 use lib.Ieee.{Float, nan}
 use Rattle.element.specs.Element.{Arith, chunkSum}
@@ -11,9 +13,9 @@ abbrev pub tab : {A : Type 0} → ℕ → (ℕ → A) → List A
 tab zero g = []
 tab (suc n) g = g 0 ∷ tab n (λ k. g (suc k))
 
--- the same numbers in the first rows and columns
-abbrev pub Same : {E : Type 0} → ℕ → ℕ → (ℕ → ℕ → E) → (ℕ → ℕ → E) → Type 0
-Same rows cols f g = (i j : ℕ) → i < rows → j < cols → f i j ≡ g i j
+-- g below n, and +0 from n on
+abbrev pub upTo : (ar : Arith) → ℕ → (ℕ → ar .E) → ℕ → ar .E
+upTo ar n g k = cond (ltb k n) (g k) (ar .nought)
 
 -- an array of floats whose first n are g
 abbrev pub Begins : ℕ → List Float → (ℕ → Float) → Type 0
@@ -31,12 +33,15 @@ abbrev pub float : Held Float Float
 float = record { none = nan; is = λ x. x; of = λ x. x; back = λ x. refl }
 
 module _ {E N : Type 0} (held : Held E N) where
-  -- number k of a line, which is a row or a column; a line of n numbers; number k of line l
+  -- number k of a line, which is a row or a column; a line of n numbers; h lines of n; number k of line l
   abbrev pub at : List N → ℕ → E
   at x k = held .is (getD x k (held .none))
 
   abbrev pub line : ℕ → (ℕ → E) → List N
   line n g = tab n (λ k. held .of (g k))
+
+  abbrev pub lines : ℕ → ℕ → (ℕ → ℕ → E) → List (List N)
+  lines h n g = tab h (λ l. line n (g l))
 
   abbrev pub cell : List (List N) → ℕ → ℕ → E
   cell t l k = at (getD t l []) k
@@ -44,7 +49,7 @@ module _ {E N : Type 0} (held : Held E N) where
 module _ {N : Type 0} (ar : Arith) (held : Held (ar .E) N) (h w : ℕ) where
   -- w columns of h numbers
   abbrev pub columns : (ℕ → ℕ → ar .E) → List (List N)
-  columns g = tab w (λ j. line held h (λ i. g i j))
+  columns g = lines held w h (λ j i. g i j)
 
   -- the columns with one depth step added: x is A by lane, y is B by lane
   unfoldable pub stepped : List (List N) → (ℕ → ar .E) → (ℕ → ar .E) → List (List N)
@@ -55,13 +60,9 @@ module _ {N : Type 0} (ar : Arith) (held : Held (ar .E) N) (h w : ℕ) where
   unfolding chunkSum
   summed a b n = columns (λ i j. chunkSum ar (a i) (b j) 0 n)
 
--- An array of n that a loop works through in order: below i element k is as W says of it, from i on what it was at first. Where W says which
--- one it is, the loop fills the array.
-pub record Worked {A : Type 0} (z : A) (n i : ℕ) (W : ℕ → A → Type 0) (old l : List A) : Type 0 where
+-- An array of n that a loop fills in order: below i element k is g k, from i on what it was at first.
+pub record Filled {A : Type 0} (z : A) (n i : ℕ) (g : ℕ → A) (old l : List A) : Type 0 where
   pub long : length l ≡ n
   pub upto : i ≤ n
-  pub made : (k : ℕ) → k < i → W k (getD l k z)
+  pub made : (k : ℕ) → k < i → getD l k z ≡ g k
   pub left : (k : ℕ) → i ≤ k → getD l k z ≡ getD old k z
-
-abbrev pub Filled : {A : Type 0} → A → ℕ → ℕ → (ℕ → A) → List A → List A → Type 0
-Filled z n i g old l = Worked z n i (λ k x. x ≡ g k) old l

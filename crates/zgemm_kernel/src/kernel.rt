@@ -1,12 +1,12 @@
 // Derived from crates/cgemm_kernel/src/kernel.rt by tools/derive: edit that.
 // The tile kernel: rules 1, 3 and 4. Rust: `kernel_fallback_impl_complex` in cgemm_common.rs.
 ghost use mathlib.Core.Path.{_≡_};
-ghost use Prim.Native.Nat.{ℕ, _+_, _*_, _<_, _≤_};
+ghost use Prim.Native.Nat.{_+_, _*_, _≤_};
 ghost use lib.ListN.{length, getD};
 ghost use lib.Ieee.{nan};
 ghost use Rattle.element.specs.Complex64.{arith, asComplex, shape};
-ghost use Rattle.loops.specs.Panels.{complexPacking};
-ghost use Rattle.loops.specs.Tiles.{tab, at, line, cell, Same, stepped, summed};
+ghost use Rattle.loops.specs.Panels.{complexPacking, padded};
+ghost use Rattle.loops.specs.Tiles.{tab, upTo, at, line, cell, columns, stepped, summed};
 ghost use Rattle.loops.specs.Work.{part};
 ghost use Rattle.zgemm_kernel.specs.Parts.{both, held, apart, partsAt};
 use element::complex64::Complex64;
@@ -161,11 +161,11 @@ fn column_apart(t: Column) -> Apart
     Apart { re: re, im: im }
 }
 
-// The first rows of a column times alpha, alpha on the left. The sums are read apart, and by a count: where they are read as records, the
-// compiler pairs each real with its imaginary in the depth loop too, and that takes nearly twice the time.
+// The first rows of a column times alpha, alpha on the left, and +0 in the others. The sums are read apart, and by a count: where they are
+// read as records, the compiler pairs each real with its imaginary in the depth loop too, and that takes nearly twice the time.
 fn column_times(alpha: Complex64, t: Column, rows: usize) -> Column
     requires { ⌜ rows ≤ shape .mr ⌝ }
-    ensures { λ r. ⌜ ((i : ℕ) → i < rows → at held r i ≡ arith .mul (asComplex alpha) (at held t i)) ⌝ }
+    ensures { λ r. ⌜ r ≡ line held (shape .mr) (upTo arith rows (λ i. arith .mul (asComplex alpha) (at held t i))) ⌝ }
 {
     let sums = column_apart(t);
     let mut u = [Complex64::zero(); MR];
@@ -181,10 +181,11 @@ fn column_times(alpha: Complex64, t: Column, rows: usize) -> Column
     u
 }
 
-// The first rows of the tile times alpha.
+// The first rows of the tile times alpha, and +0 in the others.
 fn times(alpha: Complex64, t: Tile, rows: usize) -> Tile
     requires { ⌜ rows ≤ shape .mr ⌝ }
-    ensures { λ r. ⌜ Same rows (shape .nr) (λ i j. cell held r j i) (λ i j. arith .mul (asComplex alpha) (cell held t j i)) ⌝ }
+    ensures { λ r. ⌜ r ≡ columns arith held (shape .mr) (shape .nr) (padded arith rows (
+        λ i j. arith .mul (asComplex alpha) (cell held t j i))) ⌝ }
 {
     let mut u = t;
     let mut j = 0usize;
@@ -196,10 +197,13 @@ fn times(alpha: Complex64, t: Tile, rows: usize) -> Tile
     u
 }
 
-// Alpha times the product of two packed panels of depth kc: the first rows of the tile.
+// Alpha times the product of two packed panels of depth kc in the first rows of the tile, and +0 in the others.
 pub fn kernel(kc: usize, alpha: Complex64, a: &[Real], b: &[Real], rows: usize) -> Tile
-    requires { ⌜ (kc * complexPacking .floats (shape .mr) ≤ length (now a)) × (kc * complexPacking .floats (shape .nr) ≤ length (now b)) × (rows ≤ shape .mr) ⌝ }
-    ensures { λ r. ⌜ Same rows (shape .nr) (λ i j. cell held r j i) (part arith (asComplex alpha) (complexPacking .lane (now (a .entry)) (shape .mr)) (complexPacking .lane (now (b .entry)) (shape .nr)) kc) ⌝ }
+    requires { ⌜ (kc * complexPacking .floats (shape .mr) ≤ length (now a)) × (kc * complexPacking .floats (shape .nr) ≤ length (now b))
+        × (rows ≤ shape .mr) ⌝ }
+    ensures { λ r. ⌜ r ≡ columns arith held (shape .mr) (shape .nr) (padded arith rows (
+        part arith (asComplex alpha) (complexPacking .lane (now (a .entry)) (shape .mr))
+        (complexPacking .lane (now (b .entry)) (shape .nr)) kc)) ⌝ }
 {
     times(alpha, sums(kc, a, b), rows)
 }

@@ -1,24 +1,25 @@
 -- Derived from crates/sgemm_kernel/proofs/kernel/times/Proof.antt by tools/derive: edit that.
--- `times` meets its contract: the rows are multiplied and stored in order, the tile is `Filled` below i. Assumes nothing.
+-- `times` meets its contract: the rows are multiplied and stored in order, the tile is `Filled` below i, and +0 at first. Assumes nothing.
 use Prim.Native.Nat.{ℕ, _-_, _≤_}
-use mathlib.Core.Path.{refl, ap, _∙_}
+use mathlib.Core.Path.{refl, _∙_}
 use mathlib.Core.List.{List, []}
 use native.Mathlib.Omega.{arith}
-use lib.ListN.{getD}
-use lib.Ieee.{Float, nan}
+use borrow.Author.Tests.{lt-ltb, le-ltb}
+use lib.Ieee.{Float, ofBits}
 use Rattle.element.specs.Real64.{arith as ar, shape}
+use Rattle.loops.specs.Panels.{padded}
 use Rattle.loops.specs.Tiles.{float, line, cell, Filled}
-use Rattle.loops.specs.TileLaws.{getD-tab, filled-none, filled-more}
+use Rattle.loops.specs.TileLaws.{getD-tab, filled-none, filled-more, filled-rest}
 use borrow.Author.Needs.{needs}
 use Rattle.dgemm_kernel.proofs.kernel.times.Statement.{statement}
 use Rattle.dgemm_kernel.proofs.kernel.times.Tie as tie
 
--- row i of the columns times alpha, by column
-abbrev across : Float → List (List Float) → ℕ → ℕ → Float
-across alpha t i j = ar .mul alpha (cell float t j i)
+-- row i of the tile
+abbrev row : Float → List (List Float) → ℕ → ℕ → List Float
+row alpha t rows i = line float (shape .nr) (padded ar rows (λ i j. ar .mul alpha (cell float t j i)) i)
 
 abbrev Inv-loop : tie.InvT-loop
-Inv-loop alpha rows t tile₀ i₀ tile i = (i ≤ rows) × Filled [] (shape .mr) i (λ i. line float (shape .nr) (across alpha t i)) tile₀ tile
+Inv-loop alpha rows t tile₀ i₀ tile i = (i ≤ rows) × Filled [] (shape .mr) i (row alpha t rows) tile₀ tile
 
 abbrev μ-loop : tie.MeasureT-loop
 μ-loop alpha rows t tile₀ i₀ tile i = rows - i
@@ -42,13 +43,18 @@ loop-less : tie.Need-loop-less Inv-loop μ-loop
 loop-less c = search needs
 
 loop-again : tie.Need-loop-again Inv-loop μ-loop
-loop-again c = let k = c .before .before .before .loop in (omega arith, filled-more _ _ _ _ (k .i) (k .inv .1) (omega arith) (c .row-times .ensures))
+loop-again c =
+    let k = c .before .before .before .loop in
+    let s = c .before .before .before .before .args in
+    (omega arith, filled-more _ _ _ _ (k .i) (k .inv .1) (omega arith) (rw (lt-ltb (k .i) (s .rows) (omega arith)) (c .row-times .ensures)))
 
 returns : tie.Need-returns Inv-loop μ-loop
+unfolding ofBits
 returns c =
     let k = c .before .loop in
-    let s = c .before .before .args in
-    λ i j l m. ap (λ (r : List Float). getD r j nan) (k .inv .1 .made i (omega arith)) ∙ getD-tab (shape .nr) (across (s .alpha) (s .t2) i) j nan m
+    filled-rest _ _ _ _ (k .i) (k .inv .1)
+    (λ i l m. rw (le-ltb i (c .before .before .args .rows) (omega arith))
+    (getD-tab (shape .mr) (λ i. line float (shape .nr) (λ j. ar .nought)) i [] m))
 
 pub times-spec : {M : Type 1} → statement M
 times-spec =
