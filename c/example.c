@@ -41,10 +41,20 @@ int main(void) {
     printf("%s: %g%+gi\n", hewn_answer_text(answer), z[0], z[1]);
     if (answer != HEWN_DONE || z[0] != -10 || z[1] != -5) return 1;
 
-    /* each answer has its own words */
-    for (uint64_t x = HEWN_DONE; x <= HEWN_PACK_SHORT; x++)
-        for (uint64_t y = 0; y < x; y++)
-            if (strcmp(hewn_answer_text(x), hewn_answer_text(y)) == 0) return 1;
+    /* the answers' words */
+    static const char *const words[] = {
+        "done",
+        "m, k or n is above 65,536",
+        "a stride of A, B or C is above 2,147,483,648 in magnitude",
+        "a place of C is outside C's slice",
+        "two different places of C are the same element",
+        "a place of A is outside A's slice",
+        "a place of B is outside B's slice",
+        "the pack buffer is shorter than the need",
+        "no answer of this interface",
+    };
+    for (uint64_t x = HEWN_DONE; x <= HEWN_PACK_SHORT + 1; x++)
+        if (strcmp(hewn_answer_text(x), words[x]) != 0) return 1;
 
     /* the largest needs */
     if (hewn_sgemm_need(65536, 65536, 65536).elements != HEWN_SGEMM_MAX_NEED) return 1;

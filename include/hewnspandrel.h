@@ -1,5 +1,5 @@
-/* Hewnspandrel: C = alpha A B + beta C for real and complex matrices, proved in Rattle, with the bits of the Rust crate
-   matrixmultiply 0.3.11 where it fuses nothing. For x86-64 Linux.
+/* Hewnspandrel: C = alpha A B + beta C for real and complex matrices, proved in Rattle. Its bits are those of the Rust crate
+   matrixmultiply 0.3.11 where that fuses nothing, which is tested. For x86-64 Linux, C99 or C++.
 
    A (m by k), B (k by n) and C (m by n) are slices: a pointer and the number of floats behind it. An operand says where
    place (0,0) lies and how far it is from one row and from one column to the next, in whole elements; place (i,j) is the

@@ -2,7 +2,7 @@
 //!
 //! HEWNSPANDREL_LIB names the folder of libhewnspandrel.a, by its whole path. Where it is not set, or empty, the folder is
 //! target/staticlib of this repository, and `rt staticlib hewnspandrel` makes the library where it is missing or older
-//! than a file of crates/.
+//! than what it is made of: crates.txt and all below crates/.
 
 use std::fs::{self, File, OpenOptions};
 use std::io::Write;
@@ -61,13 +61,16 @@ fn made() -> PathBuf {
     if !crates.is_dir() {
         stop(&format!("no proved crates beside this folder ({}): set HEWNSPANDREL_LIB to the folder of {LIBRARY}", crates.display()));
     }
-    println!("cargo:rerun-if-changed={}", crates.display());
+    let sources = [repository.join("crates.txt"), crates];
+    for source in &sources {
+        println!("cargo:rerun-if-changed={}", source.display());
+    }
     let library = repository.join("target/staticlib").join(LIBRARY);
-    if is_old(&library, &crates) {
+    if is_old(&library, &sources) {
         let lock = lock(&repository.join("target"));
         // another build may have made it while this one waited
-        if is_old(&library, &crates) {
-            let state = if library.is_file() { "is older than crates/" } else { "does not exist yet" };
+        if is_old(&library, &sources) {
+            let state = if library.is_file() { "is older than its sources" } else { "does not exist yet" };
             make(&repository, &format!("{} {state}", library.display()), lock);
         }
     }
@@ -149,22 +152,19 @@ fn names(archive: &[u8]) -> Option<impl Iterator<Item = &[u8]>> {
     Some(index.get(4 + 4 * count..)?.split(|&byte| byte == 0))
 }
 
-fn is_old(library: &Path, crates: &Path) -> bool {
-    changed(library) < Some(newest(crates))
+fn is_old(library: &Path, sources: &[PathBuf]) -> bool {
+    changed(library) < sources.iter().map(|source| newest(source)).max()
 }
 
 fn changed(file: &Path) -> Option<SystemTime> {
     fs::metadata(file).and_then(|m| m.modified()).ok()
 }
 
-/// When the newest file below a folder was changed.
-fn newest(folder: &Path) -> SystemTime {
-    let entries = fs::read_dir(folder).into_iter().flatten().flatten();
-    let times = entries.map(|e| match e.path() {
-        p if p.is_dir() => newest(&p),
-        p => changed(&p).unwrap_or(SystemTime::UNIX_EPOCH),
-    });
-    times.max().unwrap_or(SystemTime::UNIX_EPOCH)
+/// When a file, or the newest of a folder and all below it, was changed. A folder changes when something in it comes or goes.
+fn newest(source: &Path) -> SystemTime {
+    let entries = fs::read_dir(source).into_iter().flatten().flatten();
+    let own = changed(source).unwrap_or(SystemTime::UNIX_EPOCH);
+    entries.map(|e| newest(&e.path())).fold(own, SystemTime::max)
 }
 
 /// At once, for someone who waits: cargo keeps back what a build script writes until it has ended, so it goes to the

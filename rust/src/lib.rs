@@ -1,5 +1,6 @@
-//! General matrix multiplication, C ← α A B + β C, for f32, f64 and complex matrices, with the bits of the crate
-//! matrixmultiply 0.3.11 where it fuses nothing, from a library that is proved in Rattle. For x86-64 Linux.
+//! General matrix multiplication, C ← α A B + β C, for f32, f64 and complex matrices, from a library that is proved in
+//! Rattle. Its bits are those of the crate matrixmultiply 0.3.11 where that fuses nothing, which is tested, as this crate
+//! around the library is. For x86-64 Linux.
 //!
 //! Any sizes, strides, bases and slices get an answer: the call is done, or it is refused with the first [`Refusal`] that
 //! applies, and then nothing has been stored in C or in the pack buffer. No call panics.
@@ -73,7 +74,7 @@
 //! The bits are those of rounding to nearest, with subnormal numbers kept, as a Rust program has it. Where a thread has
 //! set another rounding mode, or flushes subnormal numbers to zero (a program that gcc or clang links with `-ffast-math` does
 //! so from its start), C may get other bits.
-#![deny(missing_docs)]
+#![deny(missing_docs, improper_ctypes)]
 #![warn(clippy::undocumented_unsafe_blocks, clippy::missing_errors_doc)]
 
 mod calls;

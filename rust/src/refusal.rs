@@ -12,6 +12,16 @@ use std::fmt;
 /// assert_eq!(refused.number(), 3);
 /// assert_eq!(refused.to_string(), "a place of C is outside C's slice");
 /// ```
+///
+/// ```compile_fail,E0004
+/// use hewnspandrel::Refusal::{self, *};
+/// fn is_of_c(refusal: Refusal) -> bool {
+///     match refusal {
+///         OutsideC | CollidesC => true,
+///         TooLarge | TooFar | OutsideA | OutsideB | PackShort => false,
+///     }
+/// }
+/// ```
 #[derive(Clone, Copy, Debug, PartialEq, Eq, Hash)]
 #[non_exhaustive]
 pub enum Refusal {

@@ -53,6 +53,10 @@ impl<T: Real> Workspace<T> {
     }
 
     /// A buffer of so many reals, so that calls whose need is no more (twice the need for complex elements) take no memory.
+    ///
+    /// # Panics
+    ///
+    /// Where so many reals take more than `isize::MAX` bytes, as a `Vec` does.
     #[must_use]
     pub fn with_reals(reals: usize) -> Workspace<T> {
         Workspace { buffer: vec![T::ZERO; reals] }
@@ -75,6 +79,10 @@ impl<T: Real> Workspace<T> {
     /// assert_eq!(c, [-1.0, 0.0]);
     /// # Ok::<(), hewnspandrel::Refusal>(())
     /// ```
+    ///
+    /// # Panics
+    ///
+    /// Where so many reals take more than `isize::MAX` bytes, as a `Vec` does.
     #[must_use]
     pub fn pack(&mut self, reals: usize) -> &mut [T] {
         if self.buffer.len() < reals {

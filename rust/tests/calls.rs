@@ -38,10 +38,18 @@ fn numbers_and_words() {
         Refusal::PackShort,
     ];
     assert_eq!(all.map(Refusal::number), [1, 2, 3, 4, 5, 6, 7]);
-    let words: std::collections::HashSet<String> = all.iter().map(Refusal::to_string).collect();
-    assert_eq!(words.len(), 7);
+    let words = [
+        "m, k or n is above 65,536",
+        "a stride of A, B or C is above 2,147,483,648 in magnitude",
+        "a place of C is outside C's slice",
+        "two different places of C are the same element",
+        "a place of A is outside A's slice",
+        "a place of B is outside B's slice",
+        "the pack buffer is shorter than the need",
+    ];
+    assert_eq!(all.map(|refusal| refusal.to_string()), words);
     let error: Box<dyn std::error::Error + Send + Sync> = Box::new(Refusal::PackShort);
-    assert_eq!(error.to_string(), "the pack buffer is shorter than the need");
+    assert_eq!(error.to_string(), words[6]);
 }
 
 #[test]

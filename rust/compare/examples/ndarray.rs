@@ -1,4 +1,5 @@
-//! ndarray's `general_mat_mul`, and the same product by ours beside it: the same bits, NaN matching NaN.
+//! ndarray's `general_mat_mul`, and the same product by ours beside it: the same bits, NaN matching NaN. They are the same because
+//! this crate builds ndarray without `std`: with it matrixmultiply may take kernels that fuse, whose bits differ.
 //!
 //!     rust/compare/cargo run --release --example ndarray
 
