@@ -68,14 +68,14 @@ pub fn fill<'a>(words: &'a [u64], floats: &mut [f32]) -> &'a [u64]
 pub fn first_difference(floats: &[f32], words: &[u64]) -> usize
     ensures { λ r. ⌜ FirstDifference binary32 (now (floats .entry)) (now (words .entry)) r ⌝ }
 {
-    let mut i = 0;
-    while i < floats.len() {
-        if !matches(floats[i], word_at(words, i)) {
-            return i;
+    let mut place = 0;
+    while place < floats.len() {
+        if !matches(floats[place], word_at(words, place)) {
+            return place;
         }
-        i += 1;
+        place += 1;
     }
-    i
+    place
 }
 
 // The complex number whose parts the first two words hold.

@@ -69,14 +69,14 @@ pub fn fill<'a>(words: &'a [u64], floats: &mut [f64]) -> &'a [u64]
 pub fn first_difference(floats: &[f64], words: &[u64]) -> usize
     ensures { λ r. ⌜ FirstDifference binary64 (now (floats .entry)) (now (words .entry)) r ⌝ }
 {
-    let mut i = 0;
-    while i < floats.len() {
-        if !matches(floats[i], word_at(words, i)) {
-            return i;
+    let mut place = 0;
+    while place < floats.len() {
+        if !matches(floats[place], word_at(words, place)) {
+            return place;
         }
-        i += 1;
+        place += 1;
     }
-    i
+    place
 }
 
 // The complex number whose parts the first two words hold.

@@ -1,4 +1,4 @@
--- `sample::floats32::first_difference` meets its contract. The invariant: every place before `i` agrees. The measure is how many are left.
+-- `sample::floats32::first_difference` meets its contract. The invariant: every place before `place` agrees. The measure is how many are left.
 -- Assumes nothing.
 use Prim.Native.Nat.{ℕ, _≤_, _<_, _-_}
 use mathlib.Core.Path.{_≡_, sym, ap, _∙_}
@@ -14,10 +14,10 @@ use Rattle.sample.proofs.floats32.first_difference.Statement.{statement
 use Rattle.sample.proofs.floats32.first_difference.Tie as tie
 
 abbrev Inv-loop : tie.InvT-loop
-Inv-loop floats words i₀ i = (i ≤ length floats) × ((k : ℕ) → k < i → getD floats k nan ≡ floatOf binary32 (getD words k 0))
+Inv-loop floats words place₀ place = (place ≤ length floats) × ((k : ℕ) → k < place → getD floats k nan ≡ floatOf binary32 (getD words k 0))
 
 abbrev μ-loop : tie.MeasureT-loop
-μ-loop floats words i₀ i = length floats - i
+μ-loop floats words place₀ place = length floats - place
 
 loop-holds : tie.Need-loop-holds Inv-loop μ-loop
 loop-holds c = (omega arith, λ k l. absurd (omega arith))
@@ -43,8 +43,8 @@ returns c =
       differs = λ l e. c .before .matches .ensures .if-false (not-true _ (c .if1 .taken)) (e ∙ sym (ap (floatOf binary32) (c .before .before .word-at .ensures)));
     }
 
-add-i : tie.Need-add-i Inv-loop μ-loop
-add-i c = search needs
+add-place : tie.Need-add-place Inv-loop μ-loop
+add-place c = search needs
 
 loop-less : tie.Need-loop-less Inv-loop μ-loop
 loop-less c = search needs
@@ -53,7 +53,7 @@ loop-again : tie.Need-loop-again Inv-loop μ-loop
 loop-again c =
     let at = c .before .before .before .before .before .loop in
     let agrees = c .before .matches .ensures .if-true (not-false _ (c .if1 .left)) ∙ ap (floatOf binary32) (c .before .before .word-at .ensures) in
-    (omega arith, below-more _ (at .i) (at .inv .1) agrees)
+    (omega arith, below-more _ (at .place) (at .inv .1) agrees)
 
 returns-2 : tie.Need-returns-2 Inv-loop μ-loop
 returns-2 c = record { within = c .before .loop .inv .0; agree = c .before .loop .inv .1; differs = λ l. absurd (omega arith) }
@@ -70,7 +70,7 @@ first-difference-spec =
     word-at-requires
     matches-requires
     returns
-    add-i
+    add-place
     loop-less
     loop-again
     returns-2)
