@@ -33,7 +33,8 @@ one-read {bytes} {first} {number} {left} byte r l e h =
     let more : 256 ^ (8 - (left - 1)) ≡ 256 ^ (8 - left) * 256 = ap (λ (n : ℕ). 256 ^ n) (sym count) ∙ pow-suc 256 (8 - left) in
     record {
       within = omega (arith, r .within);
-      is = (λ k. e k + 256 * (r .is ∙ ap (λ (n : ℕ). numberAt (8 - left) bytes n) next) k) ∙ ap (λ (n : ℕ). numberAt n bytes (first + (left - 1))) count;
+      is = (λ k. e k + 256 * (r .is ∙ ap (λ (n : ℕ). numberAt (8 - left) bytes n) next) k)
+          ∙ ap (λ (n : ℕ). numberAt n bytes (first + (left - 1))) count;
       below = omega (arith, r .below);
     }
 

@@ -3,7 +3,7 @@ use mathlib.Core.Path.{_≡_, refl, sym, _∙_, ap, subst}
 use mathlib.Core.Bool.{Bool, true, false, not, cond}
 use Prim.Native.Nat.{ℕ, _*_, _%_, _≤_, _<_}
 use borrow.Author.Tests.{lt-ltb, le-ltb, eqb-true, eqb-false}
-use lib.Dec.{T, eqb, ltb}
+use lib.Dec.{T, eqb}
 use lib.Ieee.{Float, nan, inf, fin, Format, binary32, binary64, hid, ones, top, ne, div, fits, isNan, nanBits, ofBits, toBits}
 use lib.Ieee.Bits.{nanBits-is, nanBits-above, ofBits-toBits}
 use lib.Ieee.Compare.{differs-from-itself, nan-differs}
@@ -48,7 +48,8 @@ large-float f word h = ap (λ (b : Bool). cond b (ofBits f word) nan) (sym (le-l
 
 pub nan-float : (f : Format) (word : ℕ) → word < 2 * top f → ones f * hid f < word % top f → nan ≡ floatOf f word
 nan-float f word l h =
-    sym (is-nan (ofBits f word) (sym (nanBits-is f word) ∙ nanBits-above f word ∙ lt-ltb (ones f * hid f) (word % top f) h)) ∙ pattern-float f word l
+    let above : isNan (ofBits f word) ≡ true = sym (nanBits-is f word) ∙ nanBits-above f word ∙ lt-ltb (ones f * hid f) (word % top f) h in
+    sym (is-nan (ofBits f word) above) ∙ pattern-float f word l
 
 -- ---- is a float the recorded one, y, which is w?
 

@@ -54,7 +54,8 @@ fn matches(x: f32, word: u64) -> bool
 
 // Fills floats from as many words, and answers the words behind those.
 pub fn fill<'a>(words: &'a [u64], floats: &mut [f32]) -> &'a [u64]
-    ensures { λ r. ⌜ (now (floats .exit) ≡ floatsOf binary32 (length (now (floats .entry))) (now (words .entry))) × (now r ≡ drop (length (now (floats .entry))) (now (words .entry))) ⌝ }
+    ensures { λ r. ⌜ (now (floats .exit) ≡ floatsOf binary32 (length (now (floats .entry))) (now (words .entry)))
+        × (now r ≡ drop (length (now (floats .entry))) (now (words .entry))) ⌝ }
 {
     let mut i = 0;
     while i < floats.len() {

@@ -1,4 +1,4 @@
--- `sample::calls::first_call` meets its contract: each part of what a call is, is looked at, and none of its lengths was cut. Assumes nothing.
+-- `sample::calls::first_call` meets its contract: each part of what a call is is looked at, and no length was cut. Assumes nothing.
 use Prim.Native.Nat.{ℕ, _+_}
 use mathlib.Core.Path.{_≡_, refl, sym, subst}
 use mathlib.Core.Logic.{inl, inr}
@@ -16,7 +16,9 @@ short : (c : tie.Else2) → Short (now (c .before .before .before .before .befor
 short c = c .before .is-short .ensures .if-true (not-false _ (c .if2 .left))
 
 -- the words that the code adds up
-whole : (c : tie.After-length-at3) → 21 + c .before .length-at2 .result + c .length-at3 .result + c .before .before .length-at .result + 1 + c .before .before .length-at .result ≡ sizeOf (now (c .before .before .before .before .before .before .before .before .args .words))
+whole : (c : tie.After-length-at3)
+    → 21 + c .before .length-at2 .result + c .length-at3 .result + c .before .before .length-at .result + 1 + c .before .before .length-at .result
+    ≡ sizeOf (now (c .before .before .before .before .before .before .before .before .args .words))
 whole c = let s = short (c .before .before .before) in omega arith
 
 word-at-requires : tie.Need-word-at-requires
@@ -82,7 +84,8 @@ returns-5 : tie.Need-returns-5
 returns-5 c =
     let e = whole (c .before .before .before .before) in
     let w = now (c .before .before .before .before .before .before .before .before .before .before .before .before .args .words) in
-    inr (λ call. c .before .holds-floats .ensures .if-false (c .if4 .left) (subst (λ (n : ℕ). HoldsFloats (take n w)) (sym e) (call .floats)), refl)
+    let none = c .before .holds-floats .ensures .if-false (c .if4 .left) in
+    inr (λ call. none (subst (λ (n : ℕ). HoldsFloats (take n w)) (sym e) (call .floats)), refl)
 
 pub first-call-spec : {M : Type 1} → statement M
 first-call-spec =

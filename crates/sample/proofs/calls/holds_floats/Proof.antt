@@ -1,7 +1,5 @@
 -- `sample::calls::holds_floats` meets its contract: over f64 any word is a pattern, over f32 each is looked at. Assumes nothing.
-use mathlib.Core.Path.{_≡_, sym, subst}
-use mathlib.Core.List.{List}
-use Prim.Native.Nat.{ℕ}
+use mathlib.Core.Path.{sym, subst}
 use native.Mathlib.Omega.{arith}
 use borrow.Author.Needs.{needs}
 use Rattle.layout.specs.Tests.{tells-by, tells-true}

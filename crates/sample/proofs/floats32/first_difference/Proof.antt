@@ -1,5 +1,5 @@
--- `sample::floats32::first_difference` meets its contract. The invariant: every place before `place` agrees. The measure is how many are left.
--- Assumes nothing.
+-- `sample::floats32::first_difference` meets its contract. The invariant: every place before `place` agrees. The measure is how many are
+-- left. Assumes nothing.
 use Prim.Native.Nat.{ℕ, _≤_, _<_, _-_}
 use mathlib.Core.Path.{_≡_, sym, ap, _∙_}
 use native.Mathlib.Omega.{arith}
@@ -8,7 +8,6 @@ use borrow.Author.Needs.{needs}
 use borrow.Author.Tests.{not-true, not-false}
 use lib.Ieee.{nan, binary32}
 use lib.ListN.{length, getD}
-use denote.Ref.{now}
 use Rattle.sample.specs.Floats.{floatOf}
 use Rattle.sample.proofs.floats32.first_difference.Statement.{statement}
 use Rattle.sample.proofs.floats32.first_difference.Tie as tie
@@ -37,11 +36,9 @@ matches-requires c κs = search needs
 returns : tie.Need-returns Inv-loop μ-loop
 returns c =
     let at = c .before .before .before .before .before .loop in
-    record {
-      within = at .inv .0;
-      agree = at .inv .1;
-      differs = λ l e. c .before .matches .ensures .if-false (not-true _ (c .if1 .taken)) (e ∙ sym (ap (floatOf binary32) (c .before .before .word-at .ensures)));
-    }
+    let word = ap (floatOf binary32) (c .before .before .word-at .ensures) in
+    let no = c .before .matches .ensures .if-false (not-true _ (c .if1 .taken)) in
+    record { within = at .inv .0; agree = at .inv .1; differs = λ l e. no (e ∙ sym word) }
 
 add-place : tie.Need-add-place Inv-loop μ-loop
 add-place c = search needs
@@ -52,8 +49,9 @@ loop-less c = search needs
 loop-again : tie.Need-loop-again Inv-loop μ-loop
 loop-again c =
     let at = c .before .before .before .before .before .loop in
-    let agrees = c .before .matches .ensures .if-true (not-false _ (c .if1 .left)) ∙ ap (floatOf binary32) (c .before .before .word-at .ensures) in
-    (omega arith, below-more _ (at .place) (at .inv .1) agrees)
+    let word = ap (floatOf binary32) (c .before .before .word-at .ensures) in
+    let same = c .before .matches .ensures .if-true (not-false _ (c .if1 .left)) in
+    (omega arith, below-more _ (at .place) (at .inv .1) (same ∙ word))
 
 returns-2 : tie.Need-returns-2 Inv-loop μ-loop
 returns-2 c = record { within = c .before .loop .inv .0; agree = c .before .loop .inv .1; differs = λ l. absurd (omega arith) }

@@ -34,7 +34,9 @@ loop-less : tie.Need-loop-less Inv-loop μ-loop
 loop-less c = search needs
 
 loop-again : tie.Need-loop-again Inv-loop μ-loop
-loop-again c = one-read (c .byte-at .result) (c .before .before .loop .inv) (c .before .loop-test .taken) (c .byte-at .ensures .0) (c .byte-at .ensures .1)
+loop-again c =
+    let byte = c .byte-at in
+    one-read (byte .result) (c .before .before .loop .inv) (c .before .loop-test .taken) (byte .ensures .0) (byte .ensures .1)
 
 returns : tie.Need-returns Inv-loop μ-loop
 returns c = all-read (c .before .loop .inv) (omega arith)

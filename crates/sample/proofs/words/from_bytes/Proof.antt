@@ -5,7 +5,6 @@ use mathlib.Core.Path.{refl}
 use native.Mathlib.Omega.{arith}
 use borrow.Author.Needs.{needs}
 use lib.ListN.{length, length-set}
-use denote.Ref.{now}
 use Rattle.loops.specs.Tiles.{Filled}
 use Rattle.loops.specs.TileLaws.{filled-none, filled-more, filled-all}
 use Rattle.sample.specs.Words.{wordOf}
