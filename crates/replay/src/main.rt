@@ -1,11 +1,17 @@
 // Replays the calls of the file sample.words through our entry points, and says which disagree with what the Rust crate did.
-mod reals32;
-mod reals64;
-
+ghost use mathlib.Core.Path.{_≡_};
+ghost use lib.ListN.{getD};
+ghost use Rattle.layout.specs.Operands.{Tells};
+ghost use Rattle.sample.specs.declared.calls.Outcome.{Outcome};
+ghost use Rattle.replayed.specs.Replayed.{kindOf, lengthsOf, Replayed};
+ghost use Rattle.replay.specs.File.{ContentsAre, Agreeing, Counted};
 use libc::STDOUT_FILENO;
+use replayed::reals32;
+use replayed::reals64;
 use sample::calls::KIND;
 use sample::calls::Outcome;
 use sample::calls::first_call;
+use sample::words::after;
 use sample::words::from_bytes;
 use sample::words::word_at;
 
@@ -19,11 +25,13 @@ fn print(text: &[u8]) {
     io::write_all(STDOUT_FILENO, text);
 }
 
-fn contents_of(words: &[u64]) -> Contents {
+fn contents_of(words: &[u64]) -> Contents
+    ensures { λ r. ⌜ ContentsAre (now (words .entry)) r ⌝ }
+{
     let mut at = 0;
     let mut number = 0;
     while at < words.len() {
-        let size = first_call(&words[at..]);
+        let size = first_call(after(words, at));
         if size == 0 {
             return Contents::Malformed(number);
         }
@@ -39,7 +47,9 @@ fn print_call(number: u64) {
 }
 
 // Is the outcome that the call agrees? Where it is not, says what disagrees.
-fn report(number: u64, outcome: Outcome) -> bool {
+fn report(number: u64, outcome: Outcome) -> bool
+    ensures { λ r. ⌜ Tells r (outcome ≡ Outcome.Agrees) ⌝ }
+{
     match outcome {
         Outcome::Agrees => true,
         Outcome::Answer => {
@@ -57,7 +67,9 @@ fn report(number: u64, outcome: Outcome) -> bool {
     }
 }
 
-fn replay(call: &[u64]) -> Outcome {
+fn replay(call: &[u64]) -> Outcome
+    ensures { λ r. ⌜ Replayed (kindOf (getD (now (call .entry)) 0 0)) (now (call .entry)) (lengthsOf (now (call .entry))) r ⌝ }
+{
     if word_at(call, KIND) % 2 == 0 {
         return reals32::replay(call);
     }
@@ -65,7 +77,9 @@ fn replay(call: &[u64]) -> Outcome {
 }
 
 // Is a call of the kind, and does it agree? Where it disagrees, it is reported under its number.
-fn agrees(call: &[u64], kind: u64, number: u64) -> bool {
+fn agrees(call: &[u64], kind: u64, number: u64) -> bool
+    ensures { λ r. ⌜ Tells r (Agreeing kind (now (call .entry))) ⌝ }
+{
     if word_at(call, KIND) != kind {
         return false;
     }
@@ -73,12 +87,14 @@ fn agrees(call: &[u64], kind: u64, number: u64) -> bool {
 }
 
 // Replays the calls of a kind, and answers how many agree.
-fn agreeing(words: &[u64], kind: u64) -> u64 {
+fn agreeing(words: &[u64], kind: u64) -> u64
+    ensures { λ r. ⌜ Counted kind (now (words .entry)) r ⌝ }
+{
     let mut agreed = 0;
     let mut at = 0;
     let mut number = 0;
     while at < words.len() {
-        let call = &words[at..];
+        let call = after(words, at);
         let size = first_call(call);
         if size == 0 {
             return agreed;

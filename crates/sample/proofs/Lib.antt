@@ -1,2 +1,4 @@
 -- What several of the crate's proofs cite.
-pub mod Laws
+pub mod ByteLaws
+pub mod FloatLaws
+pub mod SignLaws

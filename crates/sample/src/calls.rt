@@ -1,8 +1,9 @@
 // How a call lies in its words: 21 words of numbers, the floats of A, B and C, the answer, and C's floats after the call.
 ghost use mathlib.Core.Path.{_≡_};
 ghost use Prim.Native.Nat.{_≤_};
-ghost use lib.ListN.{length};
-ghost use Rattle.sample.specs.Calls.{operandAt, matricesOf};
+ghost use Rattle.layout.specs.Operands.{Tells};
+ghost use Rattle.call.specs.Demands.{First};
+ghost use Rattle.sample.specs.Calls.{operandAt, matricesOf, lengthAt, sizeOf, Short, Patterns, HoldsFloats, IsCall};
 use crate::words::after;
 use crate::words::signed;
 use crate::words::word_at;
@@ -69,7 +70,7 @@ pub fn matrices_of(call: &[u64]) -> Matrices
 
 // The length at an index, cut to the longest that a call may have.
 pub fn length_at(call: &[u64], i: usize) -> usize
-    ensures { λ r. ⌜ r ≤ 4096 ⌝ }
+    ensures { λ r. ⌜ r ≡ lengthAt (now (call .entry)) i ⌝ }
 {
     let n = word_at(call, i);
     if n < LONGEST {
@@ -78,48 +79,54 @@ pub fn length_at(call: &[u64], i: usize) -> usize
     4096
 }
 
-// Is one of the four lengths longer than a call may have?
-fn too_long(call: &[u64]) -> bool {
+// Is none of the four lengths longer than a call may have?
+fn is_short(call: &[u64]) -> bool
+    ensures { λ r. ⌜ Tells r (Short (now (call .entry))) ⌝ }
+{
     if word_at(call, A_LENGTH) > LONGEST {
-        return true;
+        return false;
     }
     if word_at(call, B_LENGTH) > LONGEST {
-        return true;
+        return false;
     }
     if word_at(call, C_LENGTH) > LONGEST {
-        return true;
+        return false;
     }
-    word_at(call, PACK_LENGTH) > LONGEST
+    word_at(call, PACK_LENGTH) <= LONGEST
 }
 
-// Is one of the words larger than any pattern of an f32?
-fn too_large(words: &[u64]) -> bool {
+// Is each word a pattern of an f32?
+fn are_patterns(words: &[u64]) -> bool
+    ensures { λ r. ⌜ Tells r (Patterns (now (words .entry))) ⌝ }
+{
     let mut i = 0;
     while i < words.len() {
         if words[i] > LARGEST {
-            return true;
+            return false;
         }
         i += 1;
     }
-    false
+    true
 }
 
 // Do the words from alpha on hold floats of the call's kind?
-fn holds_floats(call: &[u64]) -> bool {
+fn holds_floats(call: &[u64]) -> bool
+    ensures { λ r. ⌜ Tells r (HoldsFloats (now (call .entry))) ⌝ }
+{
     if word_at(call, KIND) % 2 == 1 {
         return true;
     }
-    !too_large(after(call, ALPHA))
+    are_patterns(after(call, ALPHA))
 }
 
 // How many words the first call takes, 0 where they are cut short or are no call.
 pub fn first_call(words: &[u64]) -> usize
-    ensures { λ r. ⌜ r ≤ length (now (words .entry)) ⌝ }
+    ensures { λ r. ⌜ First (IsCall (now (words .entry))) (sizeOf (now (words .entry))) (λ s. s ≡ 0) r ⌝ }
 {
     if word_at(words, KIND) >= KINDS {
         return 0;
     }
-    if too_long(words) {
+    if !is_short(words) {
         return 0;
     }
     let c = length_at(words, C_LENGTH);
@@ -127,7 +134,7 @@ pub fn first_call(words: &[u64]) -> usize
     if size > words.len() {
         return 0;
     }
-    if holds_floats(&words[0..size]) {
+    if holds_floats(&words[..size]) {
         return size;
     }
     0

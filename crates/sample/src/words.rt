@@ -1,38 +1,44 @@
 // The file as words: eight bytes each, the lowest first.
 ghost use mathlib.Core.Path.{_≡_};
-ghost use Prim.Native.Nat.{_*_, _≤_};
+ghost use Prim.Native.Nat.{_<_, _^_};
 ghost use lib.ListN.{length, getD, drop};
 ghost use mir.Syntax.{w64};
 ghost use mir.Val.{toZ};
+ghost use Rattle.loops.specs.Tiles.{tab};
+ghost use Rattle.sample.specs.Words.{numberAt, wordOf};
 
 // The byte at an index, 0 past the end.
-fn byte_at(bytes: &[u8], i: usize) -> u64 {
+fn byte_at(bytes: &[u8], i: usize) -> u64
+    ensures { λ r. ⌜ (r ≡ getD (now (bytes .entry)) i 0) × (r < 256) ⌝ }
+{
     if i < bytes.len() {
         return bytes[i] as u64;
     }
     0
 }
 
-// The word that the first eight bytes make.
-fn first_word(bytes: &[u8]) -> u64 {
-    byte_at(bytes, 0)
-        | byte_at(bytes, 1) << 8
-        | byte_at(bytes, 2) << 16
-        | byte_at(bytes, 3) << 24
-        | byte_at(bytes, 4) << 32
-        | byte_at(bytes, 5) << 40
-        | byte_at(bytes, 6) << 48
-        | byte_at(bytes, 7) << 56
+// The number that eight bytes from an index on make, read from the highest down.
+fn eight_bytes(bytes: &[u8], first: usize) -> u64
+    requires { ⌜ first < 2 ^ 63 ⌝ }
+    ensures { λ r. ⌜ r ≡ numberAt 8 (now (bytes .entry)) first ⌝ }
+{
+    let mut number = 0;
+    let mut left = 8;
+    while left > 0 {
+        left -= 1;
+        let byte = byte_at(bytes, first + left);
+        number = byte + 256 * number;
+    }
+    number
 }
 
 // Fills words from bytes.
 pub fn from_bytes(bytes: &[u8], words: &mut [u64])
-    requires { ⌜ 8 * length (now words) ≤ length (now bytes) ⌝ }
+    ensures { λ _. ⌜ now (words .exit) ≡ tab (length (now (words .entry))) (wordOf (now (bytes .entry))) ⌝ }
 {
     let mut i = 0;
     while i < words.len() {
-        let at = 8 * i;
-        words[i] = first_word(&bytes[at..]);
+        words[i] = eight_bytes(bytes, 8 * i);
         i += 1;
     }
 }

@@ -1,21 +1,26 @@
--- `sample::floats32::fill` is safe and ends. The invariant: as many floats as before, and `i` is at most their number. The measure is how
+-- `sample::floats32::fill` meets its contract. The invariant: the floats before `i` are filled, the others as they were. The measure is how
 -- many are left. Assumes nothing.
-use Prim.Native.Nat.{_≤_, _-_}
-use mathlib.Core.Path.{_≡_}
+use Prim.Native.Nat.{ℕ, _-_}
+use mathlib.Core.Path.{_≡_, refl, ap, _∙_}
 use native.Mathlib.Omega.{arith}
 use borrow.Author.Needs.{needs}
-use lib.ListN.{length, length-set}
+use lib.Ieee.{nan, binary32}
+use lib.ListN.{length, getD, drop, length-set}
+use denote.Ref.{now}
+use Rattle.loops.specs.Tiles.{Filled}
+use Rattle.loops.specs.TileLaws.{filled-none, filled-more, filled-all}
+use Rattle.sample.specs.Floats.{floatOf}
 use Rattle.sample.proofs.floats32.fill.Statement.{statement}
 use Rattle.sample.proofs.floats32.fill.Tie as tie
 
 abbrev Inv-loop : tie.InvT-loop
-Inv-loop words floats₀ i₀ floats i = (i ≤ length floats) × (length floats ≡ length floats₀)
+Inv-loop words floats₀ i₀ floats i = Filled nan (length floats₀) i (λ k. floatOf binary32 (getD words k 0)) floats₀ floats
 
 abbrev μ-loop : tie.MeasureT-loop
 μ-loop words floats₀ i₀ floats i = length floats - i
 
 loop-holds : tie.Need-loop-holds Inv-loop μ-loop
-loop-holds c = search needs
+loop-holds c = filled-none nan _ _ _ refl
 
 word-at-requires : tie.Need-word-at-requires Inv-loop μ-loop
 word-at-requires c κs = search needs
@@ -36,16 +41,22 @@ loop-less : tie.Need-loop-less Inv-loop μ-loop
 loop-less c = simp length-set (omega arith)
 
 loop-again : tie.Need-loop-again Inv-loop μ-loop
-loop-again c = (simp length-set (omega arith), simp length-set (omega arith))
+loop-again c =
+    filled-more nan _ _ _ _ (c .before .before .before .loop .inv) (omega arith)
+    (c .float-of .ensures ∙ ap (floatOf binary32) (c .before .word-at .ensures))
 
 after-requires : tie.Need-after-requires Inv-loop μ-loop
 after-requires c κs = search needs
 
 same-length : tie.Need-same-length Inv-loop μ-loop
-same-length c = search needs
+same-length c = c .before .before .loop .inv .long
 
 returns : tie.Need-returns Inv-loop μ-loop
-returns c = search needs
+returns c =
+    let s = c .before .before .before .before .before .args in
+    let at = c .before .before .loop in
+    let all : at .i ≡ length (now (s .floats)) = omega (arith, at .inv .long, at .inv .upto) in
+    (filled-all nan _ _ _ _ (at .inv) (omega arith), c .after .ensures ∙ ap (λ (n : ℕ). drop n (now (s .words))) all)
 
 pub fill-spec : {M : Type 1} → statement M
 fill-spec =

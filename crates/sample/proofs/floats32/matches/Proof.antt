@@ -1,6 +1,8 @@
--- `sample::floats32::matches` is safe: each float whose pattern it takes did not differ from itself, so it is no NaN. Assumes nothing.
+-- `sample::floats32::matches` meets its contract: one NaN is another, no NaN is a number, and numbers are equal where their patterns are.
+-- Assumes nothing.
 use borrow.Author.Needs.{needs}
-use Rattle.sample.proofs.Laws.{same-no-nan}
+use lib.Ieee.{binary32}
+use Rattle.sample.proofs.FloatLaws.{same-no-nan, nan-tells, number-tells, pattern-tells}
 use Rattle.sample.proofs.floats32.matches.Statement.{statement}
 use Rattle.sample.proofs.floats32.matches.Tie as tie
 
@@ -8,10 +10,10 @@ float-of-requires : tie.Need-float-of-requires
 float-of-requires c κs = search needs
 
 returns : tie.Need-returns
-returns c = search needs
+returns c = nan-tells (c .before .float-of .ensures) (c .if1 .taken)
 
 returns-2 : tie.Need-returns-2
-returns-2 c = search needs
+returns-2 c = number-tells (c .before .before .float-of .ensures) (c .before .if1 .left) (c .if2 .taken)
 
 float-to-bits-result : tie.Need-float-to-bits-result
 float-to-bits-result c = same-no-nan (c .before .before .before .args .x) (c .before .if1 .left)
@@ -20,7 +22,9 @@ float-to-bits-result-2 : tie.Need-float-to-bits-result-2
 float-to-bits-result-2 c = same-no-nan (c .before .before .float-of .result) (c .if2 .left)
 
 returns-3 : tie.Need-returns-3
-returns-3 c = search needs
+returns-3 c =
+    let made = c .before .before .float-of in
+    pattern-tells (made .ensures) binary32 (c .before .before .before .good .0 .1) (made .ok)
 
 pub matches-spec : {M : Type 1} → statement M
 matches-spec =

@@ -1,7 +1,9 @@
 -- Derived from crates/sample/proofs/floats32/matches/Proof.antt by tools/derive: edit that.
--- `sample::floats64::matches` is safe: each float whose pattern it takes did not differ from itself, so it is no NaN. Assumes nothing.
+-- `sample::floats64::matches` meets its contract: one NaN is another, no NaN is a number, and numbers are equal where their patterns are.
+-- Assumes nothing.
 use borrow.Author.Needs.{needs}
-use Rattle.sample.proofs.Laws.{same-no-nan}
+use lib.Ieee.{binary64}
+use Rattle.sample.proofs.FloatLaws.{same-no-nan, nan-tells, number-tells, pattern-tells}
 use Rattle.sample.proofs.floats64.matches.Statement.{statement}
 use Rattle.sample.proofs.floats64.matches.Tie as tie
 
@@ -9,10 +11,10 @@ float-of-requires : tie.Need-float-of-requires
 float-of-requires c κs = search needs
 
 returns : tie.Need-returns
-returns c = search needs
+returns c = nan-tells (c .before .float-of .ensures) (c .if1 .taken)
 
 returns-2 : tie.Need-returns-2
-returns-2 c = search needs
+returns-2 c = number-tells (c .before .before .float-of .ensures) (c .before .if1 .left) (c .if2 .taken)
 
 float-to-bits-result : tie.Need-float-to-bits-result
 float-to-bits-result c = same-no-nan (c .before .before .before .args .x) (c .before .if1 .left)
@@ -21,7 +23,9 @@ float-to-bits-result-2 : tie.Need-float-to-bits-result-2
 float-to-bits-result-2 c = same-no-nan (c .before .before .float-of .result) (c .if2 .left)
 
 returns-3 : tie.Need-returns-3
-returns-3 c = search needs
+returns-3 c =
+    let made = c .before .before .float-of in
+    pattern-tells (made .ensures) binary64 (c .before .before .before .good .0 .1) (made .ok)
 
 pub matches-spec : {M : Type 1} → statement M
 matches-spec =

@@ -1,5 +1,8 @@
--- `sample::words::byte_at` is safe: a byte is below 256, so it fits a word. Assumes nothing.
+-- `sample::words::byte_at` meets its contract: the byte at the index, and 0 past the end; a byte is below 256. Assumes nothing.
+use mathlib.Core.Path.{refl, sym}
 use native.Mathlib.Omega.{arith}
+use lib.ListN.{List·getD-eq-default}
+use denote.Ref.{now}
 use borrow.Author.Needs.{needs}
 use Rattle.sample.proofs.words.byte_at.Statement.{statement}
 use Rattle.sample.proofs.words.byte_at.Tie as tie
@@ -11,10 +14,10 @@ cast-result : tie.Need-cast-result
 cast-result c = omega (arith, c .shared-slice-known .given (c .before .before .args .i))
 
 returns : tie.Need-returns
-returns c = search needs
+returns c = (refl, omega (arith, c .shared-slice-known .given (c .before .before .args .i)))
 
 returns-2 : tie.Need-returns-2
-returns-2 c = search needs
+returns-2 c = (sym (List·getD-eq-default (now (c .before .args .bytes)) 0 (c .if1 .left)), omega arith)
 
 pub byte-at-spec : {M : Type 1} → statement M
 byte-at-spec = tie.close (tie.spec shared-slice-read-result cast-result returns returns-2)

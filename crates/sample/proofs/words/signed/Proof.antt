@@ -5,7 +5,7 @@ use borrow.Author.Needs.{needs}
 use mir.Syntax.{w64}
 use mir.Val.{SFits}
 use mir.ValLaws.{toZ-fits, toZ-ofZ}
-use Rattle.sample.proofs.Laws.{upper-half}
+use Rattle.sample.proofs.SignLaws.{upper-half}
 use Rattle.sample.proofs.words.signed.Statement.{statement}
 use Rattle.sample.proofs.words.signed.Tie as tie
 

@@ -1,5 +1,8 @@
-// Derived from crates/replay/src/reals32.rt by tools/derive: edit that.
+// Derived from crates/replayed/src/reals32.rt by tools/derive: edit that.
 // The calls over f64: dgemm and zgemm.
+ghost use lib.ListN.{getD};
+ghost use Rattle.call.specs.Demands.{lengths};
+ghost use Rattle.replayed.specs.Replayed.{kind64, lengthsOf, Ran, Replayed};
 use dgemm::gemm::dgemm;
 use sample::calls::A_LENGTH;
 use sample::calls::ALPHA;
@@ -20,7 +23,10 @@ use sample::words::word_at;
 use zgemm::gemm::zgemm;
 
 // The number of our answer to a call.
-fn answer(call: &[u64], a: &[f64], b: &[f64], c: &mut [f64], pack: &mut [f64]) -> u64 {
+fn answer(call: &[u64], a: &[f64], b: &[f64], c: &mut [f64], pack: &mut [f64]) -> u64
+    ensures { λ r. ⌜ Ran (kind64 (getD (now (call .entry)) 0 0)) (now (call .entry)) (now (a .entry)) (now (b .entry))
+        (now (c .entry)) (now (c .exit)) (now (pack .entry)) (now (pack .exit)) r ⌝ }
+{
     let q = matrices_of(call);
     let alpha = complex_of(after(call, ALPHA));
     let beta = complex_of(after(call, BETA));
@@ -44,17 +50,16 @@ fn answer(call: &[u64], a: &[f64], b: &[f64], c: &mut [f64], pack: &mut [f64]) -
 }
 
 // What a call comes to, with room for its slices.
-fn replay_in(
-    call: &[u64],
-    a: &mut [f64],
-    b: &mut [f64],
-    c: &mut [f64],
-    pack: &mut [f64],
-) -> Outcome {
+fn replay_in(call: &[u64], a: &mut [f64], b: &mut [f64], c: &mut [f64], pack: &mut [f64]) -> Outcome
+    ensures { λ r. ⌜ Replayed (kind64 (getD (now (call .entry)) 0 0)) (now (call .entry))
+        (lengths (now (a .entry)) (now (b .entry)) (now (c .entry)) (now (pack .entry))) r ⌝ }
+{
     let b_words = fill(after(call, FLOATS), a);
     let c_words = fill(b_words, b);
     let recorded = fill(c_words, c);
-    if answer(call, a, b, c, pack) != word_at(recorded, 0) {
+    let number = answer(call, a, b, c, pack);
+    let expected = word_at(recorded, 0);
+    if number != expected {
         return Outcome::Answer;
     }
     let place = first_difference(c, after(recorded, 1));
@@ -65,7 +70,9 @@ fn replay_in(
 }
 
 // What a call comes to.
-pub fn replay(call: &[u64]) -> Outcome {
+pub fn replay(call: &[u64]) -> Outcome
+    ensures { λ r. ⌜ Replayed (kind64 (getD (now (call .entry)) 0 0)) (now (call .entry)) (lengthsOf (now (call .entry))) r ⌝ }
+{
     let mut a = [0.0; 4096];
     let mut b = [0.0; 4096];
     let mut c = [0.0; 4096];
@@ -76,9 +83,9 @@ pub fn replay(call: &[u64]) -> Outcome {
     let lp = length_at(call, PACK_LENGTH);
     replay_in(
         call,
-        &mut a[0..la],
-        &mut b[0..lb],
-        &mut c[0..lc],
-        &mut pack[0..lp],
+        &mut a[..la],
+        &mut b[..lb],
+        &mut c[..lc],
+        &mut pack[..lp],
     )
 }

@@ -1,4 +1,7 @@
 // The calls over f32: sgemm and cgemm.
+ghost use lib.ListN.{getD};
+ghost use Rattle.call.specs.Demands.{lengths};
+ghost use Rattle.replayed.specs.Replayed.{kind32, lengthsOf, Ran, Replayed};
 use cgemm::gemm::cgemm;
 use sample::calls::A_LENGTH;
 use sample::calls::ALPHA;
@@ -19,7 +22,10 @@ use sample::words::word_at;
 use sgemm::gemm::sgemm;
 
 // The number of our answer to a call.
-fn answer(call: &[u64], a: &[f32], b: &[f32], c: &mut [f32], pack: &mut [f32]) -> u64 {
+fn answer(call: &[u64], a: &[f32], b: &[f32], c: &mut [f32], pack: &mut [f32]) -> u64
+    ensures { λ r. ⌜ Ran (kind32 (getD (now (call .entry)) 0 0)) (now (call .entry)) (now (a .entry)) (now (b .entry))
+        (now (c .entry)) (now (c .exit)) (now (pack .entry)) (now (pack .exit)) r ⌝ }
+{
     let q = matrices_of(call);
     let alpha = complex_of(after(call, ALPHA));
     let beta = complex_of(after(call, BETA));
@@ -43,17 +49,16 @@ fn answer(call: &[u64], a: &[f32], b: &[f32], c: &mut [f32], pack: &mut [f32]) -
 }
 
 // What a call comes to, with room for its slices.
-fn replay_in(
-    call: &[u64],
-    a: &mut [f32],
-    b: &mut [f32],
-    c: &mut [f32],
-    pack: &mut [f32],
-) -> Outcome {
+fn replay_in(call: &[u64], a: &mut [f32], b: &mut [f32], c: &mut [f32], pack: &mut [f32]) -> Outcome
+    ensures { λ r. ⌜ Replayed (kind32 (getD (now (call .entry)) 0 0)) (now (call .entry))
+        (lengths (now (a .entry)) (now (b .entry)) (now (c .entry)) (now (pack .entry))) r ⌝ }
+{
     let b_words = fill(after(call, FLOATS), a);
     let c_words = fill(b_words, b);
     let recorded = fill(c_words, c);
-    if answer(call, a, b, c, pack) != word_at(recorded, 0) {
+    let number = answer(call, a, b, c, pack);
+    let expected = word_at(recorded, 0);
+    if number != expected {
         return Outcome::Answer;
     }
     let place = first_difference(c, after(recorded, 1));
@@ -64,7 +69,9 @@ fn replay_in(
 }
 
 // What a call comes to.
-pub fn replay(call: &[u64]) -> Outcome {
+pub fn replay(call: &[u64]) -> Outcome
+    ensures { λ r. ⌜ Replayed (kind32 (getD (now (call .entry)) 0 0)) (now (call .entry)) (lengthsOf (now (call .entry))) r ⌝ }
+{
     let mut a = [0.0; 4096];
     let mut b = [0.0; 4096];
     let mut c = [0.0; 4096];
@@ -75,9 +82,9 @@ pub fn replay(call: &[u64]) -> Outcome {
     let lp = length_at(call, PACK_LENGTH);
     replay_in(
         call,
-        &mut a[0..la],
-        &mut b[0..lb],
-        &mut c[0..lc],
-        &mut pack[0..lp],
+        &mut a[..la],
+        &mut b[..lb],
+        &mut c[..lc],
+        &mut pack[..lp],
     )
 }

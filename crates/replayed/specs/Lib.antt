@@ -1,0 +1,3 @@
+pub mod Replayed
+pub mod RunLaws
+pub mod SameReplay
