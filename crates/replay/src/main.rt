@@ -133,26 +133,39 @@ fn summarise_all(words: &[u64]) {
     }
 }
 
-fn replay_bytes(bytes: &[u8]) {
-    if bytes.len() % 8 != 0 {
+fn replay_words(words: &[u64], bytes: usize) {
+    if bytes % 8 != 0 {
         print(b"the file is cut short within a word\n");
         return;
     }
-    let count = bytes.len() / 8;
-    if count > 32767 {
+    let count = bytes / 8;
+    if count >= words.len() {
         print(b"the file is too long\n");
         return;
     }
-    let mut space = [0u64; 32768];
-    let words = &mut space[0..count];
-    from_bytes(bytes, words);
-    summarise_all(words);
+    summarise_all(&words[0..count]);
+}
+
+// Reads a file into words, 512 at a time, and answers how many bytes it has, or how many were read where it is longer.
+fn read_words(file: i32, words: &mut [u64]) -> usize {
+    let mut bytes = [0u8; 4096];
+    let mut at = 0;
+    while at + 512 <= words.len() {
+        let end = at + 512;
+        let got = io::read_full(file, &mut bytes);
+        from_bytes(&bytes, &mut words[at..end]);
+        if got < 4096 {
+            return 8 * at + got;
+        }
+        at = end;
+    }
+    8 * at
 }
 
 fn replay_file(file: i32) {
-    let mut space = [0u8; 262144];
-    let got = io::read_full(file, &mut space);
-    replay_bytes(&space[..got]);
+    let mut words = [0u64; 32768];
+    let bytes = read_words(file, &mut words);
+    replay_words(&words, bytes);
 }
 
 fn main() {
