@@ -75,10 +75,10 @@ fn ratios(out: &mut String, x: f64, y: f64, kind: &str, all: &[&Measured]) {
 
 fn lines(out: &mut String, x: f64, y: f64, kind: &str, all: &[&Measured]) {
     text(out, x + 30.0, y + 18.0, "start", 13, kind);
-    // from 0.05 to 200 nanoseconds
-    let height = |t: f64| y + HIGH - 40.0 - (t.clamp(0.05, 200.0) / 0.05).log10() / 4000f64.log10() * (HIGH - 70.0);
+    // from 0.005 to 200 nanoseconds
+    let height = |t: f64| y + HIGH - 40.0 - (t.clamp(0.005, 200.0) / 0.005).log10() / 40_000f64.log10() * (HIGH - 70.0);
     let across = |side: usize| x + 40.0 + (side as f64).log2() / 10.0 * (WIDE - 70.0);
-    for decade in [0.1, 1.0, 10.0, 100.0] {
+    for decade in [0.01, 0.1, 1.0, 10.0, 100.0] {
         line(out, [x + 30.0, height(decade), x + WIDE - 20.0, height(decade)], "#ddd");
         text(out, x + 26.0, height(decade) + 4.0, "end", 10, &format!("{decade}"));
     }
