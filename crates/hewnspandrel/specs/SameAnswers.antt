@@ -1,4 +1,4 @@
--- Any two answers of one call from C are equal, but for the first need elements of the pack buffer (docs/EXCEPTIONS.md). Assumes nothing.
+-- Any two answers of one call of the C interface are equal, but for the first need elements of the pack buffer (docs/EXCEPTIONS.md). Assumes nothing.
 use Prim.Native.Nat.{ℕ, _<_}
 use mathlib.Core.Path.{_≡_, sym, ap, _∙_, subst}
 use mathlib.Core.Logic.{_⊎_}

@@ -13,7 +13,7 @@ use Rattle.call.specs.Demands.{numberOf, Call, Verdict, matrices, lengths, Outc
 use Rattle.call.specs.RefusalLaws.{verdict-same}
 use Rattle.call.specs.PieceLaws.{does-same}
 use Rattle.sample.specs.declared.calls.Outcome as code
-use Rattle.sample.specs.Floats.{FirstDifference}
+use Rattle.sample.specs.SameDifference.{first-difference-same}
 use Rattle.replayed.specs.Replayed.{formatOf, recorded, Compared, Replayed}
 
 -- ---- the end of C's slice and the answer do not depend on what the pack buffer held
@@ -35,15 +35,6 @@ module _ {kind : Kind} {q : Call kind} {A B C D D′ P P′ Q Q′ : List Float}
 
 -- ---- the comparison has one outcome
 
-first-same : {f : Format} {D : List Float} {w : List ℕ} {i j : ℕ} → FirstDifference f D w i → FirstDifference f D w j
-    → i < length D → j < length D → i ≡ j
-first-same {f} {D} {w} {i} {j} x y l m = go (decLt i j) (decLt j i)
-  where
-    go : Dec (i < j) → Dec (j < i) → i ≡ j
-    go (yes h) _ = absurd (x .differs l (y .agree i h))
-    go (no h) (yes g) = absurd (y .differs m (x .agree j g))
-    go (no h) (no g) = omega arith
-
 pub compared-same : (f : Format) (w : List ℕ) (n : ℕ) (D : List Float) (o o′ : code.Outcome) → Compared f w n D o → Compared f w n D o′
     → o ≡ o′
 compared-same f w n D code.Outcome.Agrees code.Outcome.Agrees x y = refl
@@ -54,7 +45,7 @@ compared-same f w n D code.Outcome.Answer code.Outcome.Answer x y = refl
 compared-same f w n D code.Outcome.Answer (code.Outcome.Place i) x y = absurd (x (y .0))
 compared-same f w n D (code.Outcome.Place i) code.Outcome.Agrees x y = absurd (x .2 .differs (x .1) (y .1 i (x .1)))
 compared-same f w n D (code.Outcome.Place i) code.Outcome.Answer x y = absurd (y (x .0))
-compared-same f w n D (code.Outcome.Place i) (code.Outcome.Place j) x y = ap code.Outcome.Place (first-same (x .2) (y .2) (x .1) (y .1))
+compared-same f w n D (code.Outcome.Place i) (code.Outcome.Place j) x y = ap code.Outcome.Place (first-difference-same (x .2) (y .2))
 
 -- ANY TWO OUTCOMES ARE EQUAL
 pub replayed-same : {kind : Kind} {w : List ℕ} {n : Lengths} {o o′ : code.Outcome} → Replayed kind w n o → Replayed kind w n o′ → o ≡ o′

@@ -35,7 +35,7 @@ pub record Short (w : List ℕ) : Type 0 where
 abbrev pub Patterns : List ℕ → Type 0
 Patterns w = (i : ℕ) → i < length w → getD w i 0 < 2 * top binary32
 
--- the words of a kind over f32 are patterns from alpha on
+-- the words of a kind over f32 are patterns from alpha on, the answer's among them
 abbrev pub HoldsFloats : List ℕ → Type 0
 HoldsFloats w = getD w 0 0 % 2 ≡ 0 → Patterns (drop 17 w)
 

@@ -109,7 +109,7 @@ fn are_patterns(words: &[u64]) -> bool
     true
 }
 
-// Do the words from alpha on hold floats of the call's kind?
+// Are the words from alpha on, the answer's among them, patterns of the call's kind?
 fn holds_floats(call: &[u64]) -> bool
     ensures { λ r. ⌜ Tells r (HoldsFloats (now (call .entry))) ⌝ }
 {
