@@ -1,6 +1,10 @@
-// The refusals in document 01's order. Rust: the debug assertions of `gemm_loop` and `ensure_kernel_params`, gemm.rs.
-ghost use Rattle.layout.specs.Operands.{Tells};
-ghost use Rattle.call.specs.Demands.{numberOf, Far, Verdict};
+// The refusals in document 01's order, a function a stage. Rust: the debug assertions of `gemm_loop` and `ensure_kernel_params`, gemm.rs.
+ghost use Rattle.refusal.specs.Numbers.{numberOf};
+ghost use Rattle.refusal.specs.Order.{done};
+ghost use Rattle.element.specs.Kinds.{depthChunk};
+ghost use Rattle.layout.specs.Operands.{Tells, Modest};
+ghost use Rattle.call.specs.Verdict.{Far, SizesThen, InsideThen, CThen, ABThen, RoomThen, Judged};
+ghost use Rattle.call.specs.Outcome.{answerNumber};
 use crate::answer::Answer;
 use element::kind::Kind;
 use layout::checks::collides;
@@ -9,6 +13,7 @@ use layout::checks::too_long;
 use layout::need::need;
 use layout::need::too_large;
 use layout::operand::Operand;
+use refusal::Refusal;
 
 // The sizes of a call and where its matrices lie: A is m by k, B is k by n, C is m by n.
 pub struct Matrices {
@@ -20,12 +25,11 @@ pub struct Matrices {
     pub c: Operand,
 }
 
-// How many floats each lent slice has.
+// How many floats the slices of A, B and C have.
 pub struct Lengths {
     pub a: usize,
     pub b: usize,
     pub c: usize,
-    pub pack: usize,
 }
 
 // Is one of the six strides too large?
@@ -41,15 +45,74 @@ fn too_far(q: Matrices) -> bool
     too_long(q.c)
 }
 
-// The first refusal that applies, or Done.
-pub fn judge(kind: Kind, q: Matrices, floats: Lengths) -> Answer
-    ensures { λ r. ⌜ Verdict kind q floats (numberOf r) ⌝ }
+// Refusals 1 and 2.
+fn sizes(q: Matrices) -> Answer
+    ensures { λ r. ⌜ SizesThen q done (answerNumber r) ⌝ }
 {
     if too_large(q.m, q.k, q.n) {
-        return Answer::TooLarge;
+        return Answer::Refused(Refusal::TooLarge);
     }
     if too_far(q) {
-        return Answer::TooFar;
+        return Answer::Refused(Refusal::TooFar);
+    }
+    Answer::Done
+}
+
+// A matrix in a slice of so many floats: x where a place is outside.
+fn inside(kind: Kind, rows: usize, columns: usize, o: Operand, floats: usize, x: Refusal) -> Answer
+    requires { ⌜ Modest rows columns o ⌝ }
+    ensures { λ r. ⌜ InsideThen kind rows columns o floats (numberOf x) done (answerNumber r) ⌝ }
+{
+    if outside(rows, columns, o, kind.elements_in(floats)) {
+        return Answer::Refused(x);
+    }
+    Answer::Done
+}
+
+// Refusals 3 and 4.
+fn c_alone(kind: Kind, q: Matrices, floats: Lengths) -> Answer
+    requires { ⌜ SizesThen q done 0 ⌝ }
+    ensures { λ r. ⌜ CThen kind q floats done (answerNumber r) ⌝ }
+{
+    let c = inside(kind, q.m, q.n, q.c, floats.c, Refusal::OutsideC);
+    if c.number() > 0 {
+        return c;
+    }
+    if collides(q.m, q.n, q.c) {
+        return Answer::Refused(Refusal::CollidesC);
+    }
+    Answer::Done
+}
+
+// Refusals 5 and 6.
+fn a_and_b(kind: Kind, q: Matrices, floats: Lengths) -> Answer
+    requires { ⌜ SizesThen q done 0 ⌝ }
+    ensures { λ r. ⌜ ABThen kind q floats done (answerNumber r) ⌝ }
+{
+    let a = inside(kind, q.m, q.k, q.a, floats.a, Refusal::OutsideA);
+    if a.number() > 0 {
+        return a;
+    }
+    inside(kind, q.k, q.n, q.b, floats.b, Refusal::OutsideB)
+}
+
+// Refusal 7.
+fn room(kind: Kind, q: Matrices, pack: usize) -> Answer
+    ensures { λ r. ⌜ RoomThen kind depthChunk q pack done (answerNumber r) ⌝ }
+{
+    if kind.elements_in(pack) < need(kind, q.m, q.k, q.n) {
+        return Answer::Refused(Refusal::PackShort);
+    }
+    Answer::Done
+}
+
+// The first refusal that applies, or Done; pack is the length of the pack buffer in floats.
+pub fn judge(kind: Kind, pack: usize, q: Matrices, floats: Lengths) -> Answer
+    ensures { λ r. ⌜ Judged kind pack q floats done (answerNumber r) ⌝ }
+{
+    let first = sizes(q);
+    if first.number() > 0 {
+        return first;
     }
     if q.m == 0 {
         return Answer::Done;
@@ -57,30 +120,24 @@ pub fn judge(kind: Kind, q: Matrices, floats: Lengths) -> Answer
     if q.n == 0 {
         return Answer::Done;
     }
-    if outside(q.m, q.n, q.c, kind.elements_in(floats.c)) {
-        return Answer::OutsideC;
-    }
-    if collides(q.m, q.n, q.c) {
-        return Answer::CollidesC;
+    let second = c_alone(kind, q, floats);
+    if second.number() > 0 {
+        return second;
     }
     if q.k == 0 {
         return Answer::Done;
     }
-    if outside(q.m, q.k, q.a, kind.elements_in(floats.a)) {
-        return Answer::OutsideA;
+    let third = a_and_b(kind, q, floats);
+    if third.number() > 0 {
+        return third;
     }
-    if outside(q.k, q.n, q.b, kind.elements_in(floats.b)) {
-        return Answer::OutsideB;
-    }
-    if kind.elements_in(floats.pack) < need(kind, q.m, q.k, q.n) {
-        return Answer::PackShort;
-    }
-    Answer::Done
+    room(kind, q, pack)
 }
 
 // The same of a call's own sizes and operands.
 pub fn judged(
     kind: Kind,
+    pack: usize,
     m: usize,
     k: usize,
     n: usize,
@@ -89,7 +146,7 @@ pub fn judged(
     lc: Operand,
     floats: Lengths,
 ) -> Answer
-    ensures { λ r. ⌜ Verdict kind (record { m = m; k = k; n = n; a = la; b = lb; c = lc }) floats (numberOf r) ⌝ }
+    ensures { λ r. ⌜ Judged kind pack (record { m = m; k = k; n = n; a = la; b = lb; c = lc }) floats done (answerNumber r) ⌝ }
 {
     let q = Matrices {
         m: m,
@@ -99,5 +156,5 @@ pub fn judged(
         b: lb,
         c: lc,
     };
-    judge(kind, q, floats)
+    judge(kind, pack, q, floats)
 }

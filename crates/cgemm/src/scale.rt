@@ -1,33 +1,30 @@
+// Derived from crates/sgemm/src/scale.rt by tools/derive: edit that.
 // C where the depth is zero: rule 7. Rust: `c_to_beta_c`, gemm.rs.
 ghost use Prim.Native.Nat.{_<_};
 ghost use lib.ListN.{length};
 ghost use Rattle.element.specs.Element.{scaled};
-ghost use Rattle.element.specs.Slice.{Updated, Block};
-ghost use Rattle.element.specs.SliceLaws.{Region};
+ghost use Rattle.element.specs.Slice.{Updated, Block, Region};
 ghost use Rattle.element.specs.Complex32.{arith, view, fateOf};
 ghost use Rattle.layout.specs.Place.{indexOf};
 ghost use Rattle.layout.specs.Operands.{Writable};
-use element::complex32::Complex32;
 use element::complex32::Fate;
+use element::complex32::read;
+use element::complex32::write;
 use layout::operand::Operand;
 use layout::operand::place;
 
+// The element (i,j) of C: beta times it, or +0 where beta is zero.
 fn scale_one(m: usize, n: usize, fate: Fate, c: &mut [f32], lc: Operand, i: usize, j: usize)
     requires { ⌜ Writable m n lc (view .count (length (now c))) ⌝ }
     requires { ⌜ (i < m) × (j < n) ⌝ }
     ensures { λ _. ⌜ Updated view (indexOf lc) (Region i 1 j 1) (λ i j. scaled arith (fateOf fate)) (now (c .entry)) (now (c .exit)) ⌝ }
 {
     let at = place(lc, i, j);
-    let re = at * 2;
-    let im = at * 2 + 1;
-    let new = fate.scaled(Complex32 {
-        re: c[re],
-        im: c[im],
-    });
-    c[re] = new.re;
-    c[im] = new.im;
+    let old = read(c, at);
+    write(c, at, fate.scaled(old));
 }
 
+// Row i of C.
 fn scale_row(m: usize, n: usize, fate: Fate, c: &mut [f32], lc: Operand, i: usize)
     requires { ⌜ Writable m n lc (view .count (length (now c))) ⌝ }
     requires { ⌜ i < m ⌝ }

@@ -1,3 +1,4 @@
 // The tile of complex f32: the kernel that sums it, and its masked copy into C.
 pub mod kernel;
 pub mod masked;
+mod put;

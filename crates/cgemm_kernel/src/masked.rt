@@ -2,66 +2,35 @@
 ghost use Prim.Native.Nat.{_*_, _<_, _≤_};
 ghost use lib.ListN.{length};
 ghost use Rattle.element.specs.Element.{put};
-ghost use Rattle.element.specs.Slice.{Updated, Block};
-ghost use Rattle.element.specs.SliceLaws.{Region};
-ghost use Rattle.element.specs.Complex32.{arith, view, asComplex, shape, fateOf};
+ghost use Rattle.element.specs.Slice.{Updated, Block, Region};
+ghost use Rattle.element.specs.Complex32.{kind, arith, view, number, tiling, held, fateOf};
 ghost use Rattle.layout.specs.Place.{indexOf};
 ghost use Rattle.layout.specs.Operands.{Writable};
-ghost use Rattle.loops.specs.Panels.{complexPacking};
+ghost use Rattle.loops.specs.Panels.{packingOf};
 ghost use Rattle.loops.specs.Tiles.{at, cell};
 ghost use Rattle.loops.specs.Work.{settled};
-ghost use Rattle.cgemm_kernel.specs.Parts.{held};
 use crate::kernel::Column;
-use crate::kernel::Real;
 use crate::kernel::Tile;
 use crate::kernel::kernel;
+use crate::put::put_one;
 use element::complex32::Complex32;
 use element::complex32::Fate;
 use layout::operand::Operand;
-use layout::operand::place;
-
-// The element (i,j) of C: its part over old C.
-fn put_one(
-    part: Complex32,
-    fate: Fate,
-    c: &mut [Real],
-    lc: Operand,
-    rows: usize,
-    cols: usize,
-    i: usize,
-    j: usize,
-)
-    requires { ⌜ Writable rows cols lc (view .count (length (now c))) ⌝ }
-    requires { ⌜ (i < rows) × (j < cols) ⌝ }
-    ensures { λ _. ⌜ Updated view (indexOf lc) (Region i 1 j 1) (λ i j. put arith (fateOf fate) (asComplex part)) (now (c .entry)) (now (c .exit)) ⌝ }
-{
-    let at = place(lc, i, j);
-    let re = at * 2;
-    let im = at * 2 + 1;
-    let new = fate.put(
-        part,
-        Complex32 {
-            re: c[re],
-            im: c[im],
-        },
-    );
-    c[re] = new.re;
-    c[im] = new.im;
-}
 
 // Column j of C: the first rows of a tile's column.
 fn put_column(
     ab: Column,
     fate: Fate,
-    c: &mut [Real],
+    c: &mut [f32],
     lc: Operand,
     rows: usize,
     cols: usize,
     j: usize,
 )
     requires { ⌜ Writable rows cols lc (view .count (length (now c))) ⌝ }
-    requires { ⌜ (rows ≤ shape .mr) × (j < cols) ⌝ }
-    ensures { λ _. ⌜ Updated view (indexOf lc) (Region 0 rows j 1) (λ i j. put arith (fateOf fate) (at held ab i)) (now (c .entry)) (now (c .exit)) ⌝ }
+    requires { ⌜ (rows ≤ tiling .mr) × (j < cols) ⌝ }
+    ensures { λ _. ⌜ Updated view (indexOf lc) (Region 0 rows j 1) (λ i j. put arith (fateOf fate) (at held ab i))
+        (now (c .entry)) (now (c .exit)) ⌝ }
 {
     let mut i = 0usize;
     while i < rows {
@@ -72,17 +41,11 @@ fn put_column(
 }
 
 // rows by cols of a tile, over C.
-fn c_to_masked_ab_beta_c(
-    ab: Tile,
-    fate: Fate,
-    c: &mut [Real],
-    lc: Operand,
-    rows: usize,
-    cols: usize,
-)
+fn c_to_masked_ab_beta_c(ab: Tile, fate: Fate, c: &mut [f32], lc: Operand, rows: usize, cols: usize)
     requires { ⌜ Writable rows cols lc (view .count (length (now c))) ⌝ }
-    requires { ⌜ (rows ≤ shape .mr) × (cols ≤ shape .nr) ⌝ }
-    ensures { λ _. ⌜ Updated view (indexOf lc) (Block rows cols) (λ i j. put arith (fateOf fate) (cell held ab j i)) (now (c .entry)) (now (c .exit)) ⌝ }
+    requires { ⌜ (rows ≤ tiling .mr) × (cols ≤ tiling .nr) ⌝ }
+    ensures { λ _. ⌜ Updated view (indexOf lc) (Block rows cols) (λ i j. put arith (fateOf fate) (cell held ab j i))
+        (now (c .entry)) (now (c .exit)) ⌝ }
 {
     let mut j = 0usize;
     while j < cols {
@@ -96,18 +59,21 @@ fn c_to_masked_ab_beta_c(
 pub fn masked_kernel(
     kc: usize,
     alpha: Complex32,
-    a: &[Real],
-    b: &[Real],
+    a: &[f32],
+    b: &[f32],
     fate: Fate,
-    c: &mut [Real],
+    c: &mut [f32],
     lc: Operand,
     rows: usize,
     cols: usize,
 )
     requires { ⌜ Writable rows cols lc (view .count (length (now c))) ⌝ }
-    requires { ⌜ (rows ≤ shape .mr) × (cols ≤ shape .nr) ⌝ }
-    requires { ⌜ (kc * complexPacking .floats (shape .mr) ≤ length (now a)) × (kc * complexPacking .floats (shape .nr) ≤ length (now b)) ⌝ }
-    ensures { λ _. ⌜ Updated view (indexOf lc) (Block rows cols) (settled arith (fateOf fate) (asComplex alpha) (complexPacking .lane (now (a .entry)) (shape .mr)) (complexPacking .lane (now (b .entry)) (shape .nr)) kc) (now (c .entry)) (now (c .exit)) ⌝ }
+    requires { ⌜ (rows ≤ tiling .mr) × (cols ≤ tiling .nr) ⌝ }
+    requires { ⌜ (kc * packingOf kind .floats (tiling .mr) ≤ length (now a))
+        × (kc * packingOf kind .floats (tiling .nr) ≤ length (now b)) ⌝ }
+    ensures { λ _. ⌜ Updated view (indexOf lc) (Block rows cols) (settled arith (fateOf fate) (number alpha)
+        (packingOf kind .lane (now (a .entry)) (tiling .mr)) (packingOf kind .lane (now (b .entry)) (tiling .nr)) kc)
+        (now (c .entry)) (now (c .exit)) ⌝ }
 {
     let ab = kernel(kc, alpha, a, b, rows);
     c_to_masked_ab_beta_c(ab, fate, c, lc, rows, cols);

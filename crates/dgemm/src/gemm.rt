@@ -1,7 +1,9 @@
 // Derived from crates/sgemm/src/gemm.rt by tools/derive: edit that.
 // The entry point. Rust: `dgemm`, gemm.rs.
 ghost use Rattle.element.specs.declared.kind.Kind.the-variants.{F64};
-ghost use Rattle.call.specs.Demands.{Outcome};
+ghost use Rattle.element.specs.Real64.{number};
+ghost use Rattle.call.specs.Call.{callOf};
+ghost use Rattle.call.specs.Outcome.{Outcome};
 use crate::outer::gemm_loop;
 use crate::scale::c_to_beta_c;
 use call::answer::Answer;
@@ -9,33 +11,36 @@ use call::judge::Lengths;
 use call::judge::judged;
 use element::kind::Kind;
 use element::real64::Fate;
+use element::real64::Number;
+use element::real64::Real64;
 use layout::operand::Operand;
 
-// C becomes alpha A B + beta C: A is m by k, B is k by n, C is m by n, each where its operand says in its slice. Done, or a refusal that
-// leaves C and pack as they were. Done, pack holds anything in its first need elements.
+// C becomes alpha A B + beta C: A is m by k, B is k by n, C is m by n, each where its operand says in its slice, an element as
+// Real64::FLOATS neighbouring floats. Done, or a refusal that leaves C and pack as they were. Done, pack holds anything in its first
+// need elements.
 pub fn dgemm(
     m: usize,
     k: usize,
     n: usize,
-    alpha: f64,
+    alpha: Number,
     a: &[f64],
     la: Operand,
     b: &[f64],
     lb: Operand,
-    beta: f64,
+    beta: Number,
     c: &mut [f64],
     lc: Operand,
     pack: &mut [f64],
 ) -> Answer
-    ensures { λ r. ⌜ Outcome F64 (record { m = m; k = k; n = n; alpha = alpha; beta = beta; a = la; b = lb; c = lc }) (now (a .entry)) (now (b .entry)) (now (c .entry)) (now (c .exit)) (now (pack .entry)) (now (pack .exit)) r ⌝ }
+    ensures { λ r. ⌜ Outcome (callOf F64 m k n (number alpha) la lb (number beta) lc)
+        (now (a .entry)) (now (b .entry)) (now (c .entry)) (now (c .exit)) (now (pack .entry)) (now (pack .exit)) r ⌝ }
 {
     let floats = Lengths {
         a: a.len(),
         b: b.len(),
         c: c.len(),
-        pack: pack.len(),
     };
-    let r = judged(Kind::F64, m, k, n, la, lb, lc, floats);
+    let r = judged(Kind::F64, pack.len(), m, k, n, la, lb, lc, floats);
     if r.number() != 0 {
         return r;
     }
@@ -49,6 +54,20 @@ pub fn dgemm(
         c_to_beta_c(m, n, Fate::from_beta(beta), c, lc);
         return r;
     }
-    gemm_loop(m, k, n, alpha, a, la, b, lb, beta, c, lc, pack);
+    gemm_loop(
+        Real64::DEPTH_CHUNK,
+        m,
+        k,
+        n,
+        alpha,
+        a,
+        la,
+        b,
+        lb,
+        beta,
+        c,
+        lc,
+        pack,
+    );
     r
 }

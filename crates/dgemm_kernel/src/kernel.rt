@@ -4,31 +4,30 @@
 ghost use mathlib.Core.Path.{_≡_};
 ghost use Prim.Native.Nat.{_+_, _*_, _<_, _≤_};
 ghost use lib.ListN.{length};
-ghost use Rattle.element.specs.Real64.{arith, shape};
-ghost use Rattle.loops.specs.Panels.{realPacking, padded};
-ghost use Rattle.loops.specs.Tiles.{tab, float, at, line, lines, cell, stepped, summed};
+ghost use Rattle.element.specs.Real64.{kind, arith, tiling, held};
+ghost use Rattle.loops.specs.Panels.{packingOf, padded};
+ghost use Rattle.loops.specs.Tiles.{at, line, lines, cell, stepped, summed};
 ghost use Rattle.loops.specs.Work.{part};
+use element::real64::Number;
 use element::real64::Real64;
-
-pub type Elem = f64;
 
 const MR: usize = Real64::TILE_ROWS;
 
 const NR: usize = Real64::TILE_COLUMNS;
 
-pub type Row = [Elem; NR];
+pub type Row = [Number; NR];
 
 // The tile is an array of rows.
 pub type Tile = [Row; MR];
 
-type Side = [Elem; MR];
+type Side = [Number; MR];
 
 type Columns = [Side; NR];
 
 // What depth step p reads of A's panel.
-fn side_at(a: &[Elem], p: usize) -> Side
-    requires { ⌜ p * shape .mr + shape .mr ≤ length (now a) ⌝ }
-    ensures { λ r. ⌜ r ≡ tab (shape .mr) (λ i. realPacking .lane (now (a .entry)) (shape .mr) i p) ⌝ }
+fn side_at(a: &[f64], p: usize) -> Side
+    requires { ⌜ p * tiling .mr + tiling .mr ≤ length (now a) ⌝ }
+    ensures { λ r. ⌜ r ≡ line held (tiling .mr) (λ i. packingOf kind .lane (now (a .entry)) (tiling .mr) i p) ⌝ }
 {
     let mut x = [0.0; MR];
     let mut i = 0usize;
@@ -40,9 +39,9 @@ fn side_at(a: &[Elem], p: usize) -> Side
 }
 
 // What depth step p reads of B's panel.
-fn row_at(b: &[Elem], p: usize) -> Row
-    requires { ⌜ p * shape .nr + shape .nr ≤ length (now b) ⌝ }
-    ensures { λ r. ⌜ r ≡ tab (shape .nr) (λ j. realPacking .lane (now (b .entry)) (shape .nr) j p) ⌝ }
+fn row_at(b: &[f64], p: usize) -> Row
+    requires { ⌜ p * tiling .nr + tiling .nr ≤ length (now b) ⌝ }
+    ensures { λ r. ⌜ r ≡ line held (tiling .nr) (λ j. packingOf kind .lane (now (b .entry)) (tiling .nr) j p) ⌝ }
 {
     let mut y = [0.0; NR];
     let mut j = 0usize;
@@ -54,8 +53,8 @@ fn row_at(b: &[Elem], p: usize) -> Row
 }
 
 // One column of the tile with one depth step's products added.
-fn column_step(t: Side, x: Side, y: Elem) -> Side
-    ensures { λ r. ⌜ r ≡ line float (shape .mr) (λ i. arith .step (at float t i) (at float x i) y) ⌝ }
+fn column_step(t: Side, x: Side, y: Number) -> Side
+    ensures { λ r. ⌜ r ≡ line held (tiling .mr) (λ i. arith .step (at held t i) (at held x i) y) ⌝ }
 {
     let mut u = t;
     let mut i = 0usize;
@@ -68,7 +67,7 @@ fn column_step(t: Side, x: Side, y: Elem) -> Side
 
 // The columns with one depth step's products added.
 fn step(t: Columns, x: Side, y: Row) -> Columns
-    ensures { λ r. ⌜ r ≡ stepped arith float (shape .mr) (shape .nr) t (at float x) (at float y) ⌝ }
+    ensures { λ r. ⌜ r ≡ stepped arith held (tiling .mr) (tiling .nr) t (at held x) (at held y) ⌝ }
 {
     let mut u = t;
     let mut j = 0usize;
@@ -81,18 +80,21 @@ fn step(t: Columns, x: Side, y: Row) -> Columns
 }
 
 // The columns after depth step p of two packed panels.
-fn next(t: Columns, a: &[Elem], b: &[Elem], p: usize) -> Columns
-    requires { ⌜ (p * shape .mr + shape .mr ≤ length (now a)) × (p * shape .nr + shape .nr ≤ length (now b)) ⌝ }
-    requires { ⌜ t ≡ summed arith float (shape .mr) (shape .nr) (realPacking .lane (now a) (shape .mr)) (realPacking .lane (now b) (shape .nr)) p ⌝ }
-    ensures { λ r. ⌜ r ≡ summed arith float (shape .mr) (shape .nr) (realPacking .lane (now (a .entry)) (shape .mr)) (realPacking .lane (now (b .entry)) (shape .nr)) (p + 1) ⌝ }
+fn next(t: Columns, a: &[f64], b: &[f64], p: usize) -> Columns
+    requires { ⌜ (p * tiling .mr + tiling .mr ≤ length (now a)) × (p * tiling .nr + tiling .nr ≤ length (now b)) ⌝ }
+    requires { ⌜ t ≡ summed arith held (tiling .mr) (tiling .nr)
+        (packingOf kind .lane (now a) (tiling .mr)) (packingOf kind .lane (now b) (tiling .nr)) p ⌝ }
+    ensures { λ r. ⌜ r ≡ summed arith held (tiling .mr) (tiling .nr)
+        (packingOf kind .lane (now (a .entry)) (tiling .mr)) (packingOf kind .lane (now (b .entry)) (tiling .nr)) (p + 1) ⌝ }
 {
     step(t, side_at(a, p), row_at(b, p))
 }
 
 // The sums of kc depth steps of two packed panels.
-fn sums(kc: usize, a: &[Elem], b: &[Elem]) -> Columns
-    requires { ⌜ (kc * shape .mr ≤ length (now a)) × (kc * shape .nr ≤ length (now b)) ⌝ }
-    ensures { λ r. ⌜ r ≡ summed arith float (shape .mr) (shape .nr) (realPacking .lane (now (a .entry)) (shape .mr)) (realPacking .lane (now (b .entry)) (shape .nr)) kc ⌝ }
+fn sums(kc: usize, a: &[f64], b: &[f64]) -> Columns
+    requires { ⌜ (kc * tiling .mr ≤ length (now a)) × (kc * tiling .nr ≤ length (now b)) ⌝ }
+    ensures { λ r. ⌜ r ≡ summed arith held (tiling .mr) (tiling .nr)
+        (packingOf kind .lane (now (a .entry)) (tiling .mr)) (packingOf kind .lane (now (b .entry)) (tiling .nr)) kc ⌝ }
 {
     let mut t = [[0.0; MR]; NR];
     let mut p = 0usize;
@@ -105,9 +107,9 @@ fn sums(kc: usize, a: &[Elem], b: &[Elem]) -> Columns
 }
 
 // Row i of the columns times alpha, alpha on the left.
-fn row_times(alpha: Elem, t: &Columns, i: usize) -> Row
-    requires { ⌜ i < shape .mr ⌝ }
-    ensures { λ r. ⌜ r ≡ line float (shape .nr) (λ j. arith .mul alpha (cell float (now (t .entry)) j i)) ⌝ }
+fn row_times(alpha: Number, t: &Columns, i: usize) -> Row
+    requires { ⌜ i < tiling .mr ⌝ }
+    ensures { λ r. ⌜ r ≡ line held (tiling .nr) (λ j. arith .mul alpha (cell held (now (t .entry)) j i)) ⌝ }
 {
     let mut row = [0.0; NR];
     let mut j = 0usize;
@@ -120,9 +122,9 @@ fn row_times(alpha: Elem, t: &Columns, i: usize) -> Row
 
 // The first rows of the columns times alpha, as rows, and +0 in the others. The count keeps the columns apart until here: with all of them
 // the compiler sums by rows.
-fn times(alpha: Elem, t: Columns, rows: usize) -> Tile
-    requires { ⌜ rows ≤ shape .mr ⌝ }
-    ensures { λ r. ⌜ r ≡ lines float (shape .mr) (shape .nr) (padded arith rows (λ i j. arith .mul alpha (cell float t j i))) ⌝ }
+fn times(alpha: Number, t: Columns, rows: usize) -> Tile
+    requires { ⌜ rows ≤ tiling .mr ⌝ }
+    ensures { λ r. ⌜ r ≡ lines held (tiling .mr) (tiling .nr) (padded arith rows (λ i j. arith .mul alpha (cell held t j i))) ⌝ }
 {
     let mut tile = [[0.0; NR]; MR];
     let mut i = 0usize;
@@ -135,10 +137,10 @@ fn times(alpha: Elem, t: Columns, rows: usize) -> Tile
 }
 
 // Alpha times the product of two packed panels of depth kc in the first rows of the tile, and +0 in the others.
-pub fn kernel(kc: usize, alpha: Elem, a: &[Elem], b: &[Elem], rows: usize) -> Tile
-    requires { ⌜ (kc * shape .mr ≤ length (now a)) × (kc * shape .nr ≤ length (now b)) × (rows ≤ shape .mr) ⌝ }
-    ensures { λ r. ⌜ r ≡ lines float (shape .mr) (shape .nr) (padded arith rows (
-        part arith alpha (realPacking .lane (now (a .entry)) (shape .mr)) (realPacking .lane (now (b .entry)) (shape .nr)) kc)) ⌝ }
+pub fn kernel(kc: usize, alpha: Number, a: &[f64], b: &[f64], rows: usize) -> Tile
+    requires { ⌜ (kc * tiling .mr ≤ length (now a)) × (kc * tiling .nr ≤ length (now b)) × (rows ≤ tiling .mr) ⌝ }
+    ensures { λ r. ⌜ r ≡ lines held (tiling .mr) (tiling .nr) (padded arith rows (part arith alpha
+        (packingOf kind .lane (now (a .entry)) (tiling .mr)) (packingOf kind .lane (now (b .entry)) (tiling .nr)) kc)) ⌝ }
 {
     times(alpha, sums(kc, a, b), rows)
 }

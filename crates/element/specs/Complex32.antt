@@ -1,9 +1,12 @@
--- The kind complex f32 as its code has it: arithmetic, view, chunks and tile, its numbers, and its choice for old C as the definition's. Definitions only.
-use lib.Ieee.{binary32}
+-- The kind complex f32 as its code has it: arithmetic, view, chunks and tile, its numbers, and its choice for old C as the definition's.
+-- Definitions only.
+use mathlib.Core.Path.{refl}
+use lib.Ieee.{binary32, nan}
 use Rattle.element.specs.Element.{Arith, Fate, overwrite, times, Complex, complex}
 use Rattle.element.specs.Slice.{View, complexView}
-use Rattle.element.specs.Kinds.{shapeOf}
-use Rattle.element.specs.declared.kind.Shape.{Shape}
+use Rattle.element.specs.Held.{Held}
+use Rattle.element.specs.Kinds.{tilingOf}
+use Rattle.element.specs.declared.kind.Tiling.{Tiling}
 use Rattle.element.specs.declared.kind.Kind.{Kind}
 use Rattle.element.specs.declared.kind.Kind.the-variants.{C32}
 use Rattle.element.specs.declared.complex32.Complex32.{Complex32}
@@ -19,12 +22,21 @@ arith = complex binary32
 abbrev pub view : View Complex
 view = complexView
 
-abbrev pub shape : Shape
-shape = shapeOf C32
+abbrev pub tiling : Tiling
+tiling = tilingOf C32
 
-abbrev pub asComplex : Complex32 → Complex
-asComplex z = record { re = z .re; im = z .im }
+-- a number of the code as one of the arithmetic, and back, with NaNs where an array has ended
+abbrev pub number : Complex32 → Complex
+number z = record { re = z .re; im = z .im }
+
+abbrev pub held : Held Complex Complex32
+held = record {
+  none = record { re = nan; im = nan };
+  is = number;
+  of = λ z. record { re = z .re; im = z .im };
+  back = λ z. refl;
+}
 
 abbrev pub fateOf : code.Fate → Fate Complex
 fateOf Overwrite = overwrite
-fateOf (Times x) = times (asComplex x)
+fateOf (Times x) = times (number x)

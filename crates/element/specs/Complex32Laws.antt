@@ -1,7 +1,8 @@
--- The code's complex number and its choice for old C stand for the definition's and lose nothing on the way, for complex f32. Assumes nothing.
+-- The code's complex number and its choice for old C stand for the definition's and lose nothing on the way, for complex f32.
+-- Assumes nothing.
 use mathlib.Core.Path.{_≡_, refl, sym, ap, _∙_}
 use Rattle.element.specs.Element.{Fate, overwrite, times, Complex}
-use Rattle.element.specs.Complex32.{asComplex, fateOf}
+use Rattle.element.specs.Complex32.{number, fateOf}
 use Rattle.element.specs.declared.complex32.Complex32.{Complex32}
 use Rattle.element.specs.declared.complex32.Fate as code
 use Rattle.element.specs.declared.complex32.Fate.the-variants.{Overwrite, Times}
@@ -11,11 +12,11 @@ abbrev pub numberFrom : Complex → Complex32
 numberFrom z = record { re = z .re; im = z .im }
 
 -- there and back is the same number
-pub number-back : (z : Complex32) → numberFrom (asComplex z) ≡ z
+pub number-back : (z : Complex32) → numberFrom (number z) ≡ z
 number-back z = refl
 
--- a promise about asComplex settles the code's number: two that it cannot tell apart are equal
-pub number-same : (z w : Complex32) → asComplex z ≡ asComplex w → z ≡ w
+-- a promise about number settles the code's number: two that it cannot tell apart are equal
+pub number-same : (z w : Complex32) → number z ≡ number w → z ≡ w
 number-same z w e = ap numberFrom e
 
 -- the code's choice, from the definition's

@@ -1,8 +1,9 @@
 -- Derived from crates/element/specs/Complex32Laws.antt by tools/derive: edit that.
--- The code's complex number and its choice for old C stand for the definition's and lose nothing on the way, for complex f64. Assumes nothing.
+-- The code's complex number and its choice for old C stand for the definition's and lose nothing on the way, for complex f64.
+-- Assumes nothing.
 use mathlib.Core.Path.{_≡_, refl, sym, ap, _∙_}
 use Rattle.element.specs.Element.{Fate, overwrite, times, Complex}
-use Rattle.element.specs.Complex64.{asComplex, fateOf}
+use Rattle.element.specs.Complex64.{number, fateOf}
 use Rattle.element.specs.declared.complex64.Complex64.{Complex64}
 use Rattle.element.specs.declared.complex64.Fate as code
 use Rattle.element.specs.declared.complex64.Fate.the-variants.{Overwrite, Times}
@@ -12,11 +13,11 @@ abbrev pub numberFrom : Complex → Complex64
 numberFrom z = record { re = z .re; im = z .im }
 
 -- there and back is the same number
-pub number-back : (z : Complex64) → numberFrom (asComplex z) ≡ z
+pub number-back : (z : Complex64) → numberFrom (number z) ≡ z
 number-back z = refl
 
--- a promise about asComplex settles the code's number: two that it cannot tell apart are equal
-pub number-same : (z w : Complex64) → asComplex z ≡ asComplex w → z ≡ w
+-- a promise about number settles the code's number: two that it cannot tell apart are equal
+pub number-same : (z w : Complex64) → number z ≡ number w → z ≡ w
 number-same z w e = ap numberFrom e
 
 -- the code's choice, from the definition's

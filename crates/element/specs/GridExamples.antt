@@ -2,7 +2,7 @@
 use Prim.Native.Nat.{ℕ, zero, suc, _+_, _*_, _/_, _%_, _<_}
 use mathlib.Core.Path.{_≡_, refl}
 use native.Mathlib.Omega.{arith}
-use Rattle.element.specs.Grid.{Cut, Grid}
+use Rattle.element.specs.Grid.{Cut, Multiples, Grid}
 
 -- ---- cuts
 
@@ -36,8 +36,7 @@ cut-at x m some more = record { count = 2; edge = edges-at x m; first = refl; la
 -- ---- grids
 
 -- one cell, and the stretches of a depth that is cut at multiples, in rising order
-abbrev pub along : (kc m n k : ℕ) → 0 < m → 0 < n → (c : Cut k)
-    → ((s : ℕ) → suc s < c .count → (q : ℕ) × (c .edge (suc s) ≡ c .edge s + q * kc)) → Grid kc m n k
+abbrev pub along : (kc m n k : ℕ) → 0 < m → 0 < n → (c : Cut k) → Multiples kc c → Grid kc m n k
 along kc m n k hm hn c even = record {
   rows = uncut m hm;
   columns = uncut n hn;

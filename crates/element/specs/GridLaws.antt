@@ -1,13 +1,14 @@
--- A grid is a cut: of C into cells with stretches of the depth, or of the depth alone. Assumes nothing.
+-- A grid is a cut: of C into cells with stretches of the depth. Assumes nothing.
 use Prim.Native.Nat.{ℕ, zero, suc, _+_, _-_, _*_, _≤_, _<_}
 use mathlib.Core.Path.{_≡_, sym, _∙_}
 use native.Mathlib.Decide.{decLt}
 use native.Mathlib.Nat.{zero-mul, add-mul}
 use native.Mathlib.Omega.{arith}
 use Rattle.element.specs.Slice.{Block}
-use Rattle.element.specs.SliceLaws.{Region}
-use Rattle.element.specs.Pieces.{Proper, Cuts}
-use Rattle.element.specs.Grid.{Cut, Grid}
+use Rattle.element.specs.Portions.{Divides}
+use Rattle.element.specs.Pieces.{HasPlace, Fits, Cuts}
+use Rattle.element.specs.PieceLaws.{cuts-of}
+use Rattle.element.specs.Grid.{Cut, Multiples, Grid, gridPiece}
 
 -- ---- the stretches of a cut
 
@@ -33,20 +34,21 @@ module _ {m : ℕ} (c : Cut m) where
   locate : (i : ℕ) → i < m → (x : ℕ) × (x < c .count) × (c .edge x ≤ i) × (i < c .edge (suc x))
   locate i h = locate-below (c .count) i (omega arith) (omega (arith, c .last))
 
-  before : (x y : ℕ) → x < y → y ≤ c .count → c .edge (suc x) ≤ c .edge y
-  before x y h l = go (decLt (suc x) y)
+  ends-before : (x y : ℕ) → x < y → y ≤ c .count → c .edge (suc x) ≤ c .edge y
+  ends-before x y h l = go (decLt (suc x) y)
     where
       go : Dec (suc x < y) → c .edge (suc x) ≤ c .edge y
       go (yes w) = omega (arith, rises (suc x) y w l)
       go (no w) = let q : y ≡ suc x = omega arith in rw q (omega arith)
 
   -- and there is no other
-  alone : (x y i : ℕ) → x < c .count → y < c .count → c .edge x ≤ i → i < c .edge (suc x) → c .edge y ≤ i → i < c .edge (suc y) → x ≡ y
-  alone x y i hx hy a b d e = go (decLt x y) (decLt y x)
+  one-stretch : (x y i : ℕ) → x < c .count → y < c .count → c .edge x ≤ i → i < c .edge (suc x) → c .edge y ≤ i → i < c .edge (suc y)
+      → x ≡ y
+  one-stretch x y i hx hy a b d e = go (decLt x y) (decLt y x)
     where
       go : Dec (x < y) → Dec (y < x) → x ≡ y
-      go (yes w) v = absurd (let z : ⊥ = omega (arith, before x y w (omega arith)) in z)
-      go (no w) (yes v) = absurd (let z : ⊥ = omega (arith, before y x v (omega arith)) in z)
+      go (yes w) v = absurd (let z : ⊥ = omega (arith, ends-before x y w (omega arith)) in z)
+      go (no w) (yes v) = absurd (let z : ⊥ = omega (arith, ends-before y x v (omega arith)) in z)
       go (no w) (no v) = omega arith
 
   pub ends-inside : (x : ℕ) → x < c .count → c .edge (suc x) ≤ m
@@ -57,8 +59,7 @@ module _ {m : ℕ} (c : Cut m) where
       go (no w) = let q : suc x ≡ c .count = omega arith in rw q (omega (arith, c .last))
 
   -- stretches that are multiples start at multiples
-  pub even-starts : (kc : ℕ) → ((s : ℕ) → suc s < c .count → (q : ℕ) × (c .edge (suc s) ≡ c .edge s + q * kc))
-      → (s : ℕ) → s < c .count → (q : ℕ) × (c .edge s ≡ q * kc)
+  pub even-starts : (kc : ℕ) → Multiples kc c → (s : ℕ) → s < c .count → (q : ℕ) × (c .edge s ≡ q * kc)
   even-starts kc even zero h = (0, c .first ∙ sym (zero-mul kc))
   even-starts kc even (suc s) h =
       let (q, p) = even-starts kc even s (omega arith) in
@@ -69,9 +70,7 @@ module _ {m : ℕ} (c : Cut m) where
 
 -- the places of turn t
 abbrev pub Cell : {kc m n k : ℕ} → Grid kc m n k → ℕ → ℕ → ℕ → Type 0
-Cell g t i j =
-    Region (g .rows .edge (g .row t)) (g .rows .edge (suc (g .row t)) - g .rows .edge (g .row t))
-    (g .columns .edge (g .column t)) (g .columns .edge (suc (g .column t)) - g .columns .edge (g .column t)) i j
+Cell g t = HasPlace (gridPiece g t)
 
 module _ {kc m n k : ℕ} (g : Grid kc m n k) where
   same-row : (t u i j : ℕ) → t < g .turns → u < g .turns → Cell g t i j → Cell g u i j → g .row t ≡ g .row u
@@ -80,7 +79,7 @@ module _ {kc m n k : ℕ} (g : Grid kc m n k) where
       let (p, q, r) = g .range u hu in
       let ga = g .rows .grows (g .row t) a in
       let gp = g .rows .grows (g .row u) p in
-      alone (g .rows) (g .row t) (g .row u) i a p (omega arith) (omega arith) (omega arith) (omega arith)
+      one-stretch (g .rows) (g .row t) (g .row u) i a p (omega arith) (omega arith) (omega arith) (omega arith)
 
   same-column : (t u i j : ℕ) → t < g .turns → u < g .turns → Cell g t i j → Cell g u i j → g .column t ≡ g .column u
   same-column t u i j ht hu ot ou =
@@ -88,11 +87,10 @@ module _ {kc m n k : ℕ} (g : Grid kc m n k) where
       let (p, q, r) = g .range u hu in
       let gb = g .columns .grows (g .column t) b in
       let gq = g .columns .grows (g .column u) q in
-      alone (g .columns) (g .column t) (g .column u) j b q (omega arith) (omega arith) (omega arith) (omega arith)
+      one-stretch (g .columns) (g .column t) (g .column u) j b q (omega arith) (omega arith) (omega arith) (omega arith)
 
-  -- A GRID IS A CUT
-  pub grid-cuts : Cuts k (g .turns) (Block m n) (Cell g) (λ t. g .depth .edge (g .stretch t)) (λ t. g .depth .edge (suc (g .stretch t)) - g .depth .edge (g .stretch t))
-  grid-cuts = record {
+  divided : Divides k (g .turns) (Block m n) (Cell g) (λ t. gridPiece g t .depth) (λ t. gridPiece g t .depths)
+  divided = record {
     covered = λ i j q h l.
         let (p, hp, p1, p2) = locate (g .rows) i (h .0) in
         let (c, hc, c1, c2) = locate (g .columns) j (h .1) in
@@ -105,42 +103,26 @@ module _ {kc m n k : ℕ} (g : Grid kc m n k) where
         let gc = g .depth .grows (g .stretch t) c in
         let gc′ = g .depth .grows (g .stretch u) c′ in
         g .once t u ht hu (same-row t u i j ht hu ot ou) (same-column t u i j ht hu ot ou)
-        (alone (g .depth) (g .stretch t) (g .stretch u) q c c′ (omega arith) (omega arith) (omega arith) (omega arith));
+        (one-stretch (g .depth) (g .stretch t) (g .stretch u) q c c′ (omega arith) (omega arith) (omega arith) (omega arith));
     rising = λ t u i j h l ot ou.
         rises (g .depth) (g .stretch t) (g .stretch u)
         (g .rising t u h l (same-row t u i j (omega arith) l ot ou) (same-column t u i j (omega arith) l ot ou))
         (omega (arith, g .range u l .2));
   }
 
-  pub grid-proper : Proper kc k (g .turns) (Block m n) (Cell g) (λ t. g .depth .edge (g .stretch t)) (λ t. g .depth .edge (suc (g .stretch t)) - g .depth .edge (g .stretch t))
-  grid-proper = record {
-    within = λ t i j h o.
-        let (a, b, c) = g .range t h in
-        omega (arith, g .rows .grows (g .row t) a, g .columns .grows (g .column t) b, ends-inside (g .rows) (g .row t) a, ends-inside (g .columns) (g .column t) b);
-    ends = λ t h.
-        let c = g .range t h .2 in
-        omega (arith, g .depth .grows (g .stretch t) c, ends-inside (g .depth) (g .stretch t) c);
-    filled = λ t h. omega (arith, g .depth .grows (g .stretch t) (g .range t h .2));
-    starts = λ t h. even-starts (g .depth) kc (g .even) (g .stretch t) (g .range t h .2);
-  }
+  fits : (t : ℕ) → t < g .turns → Fits m k n (gridPiece g t)
+  fits t h =
+      let (a, b, c) = g .range t h in
+      omega (
+        arith,
+        g .rows .grows (g .row t) a,
+        g .columns .grows (g .column t) b,
+        g .depth .grows (g .stretch t) c,
+        ends-inside (g .rows) (g .row t) a,
+        ends-inside (g .columns) (g .column t) b,
+        ends-inside (g .depth) (g .stretch t) c,
+      )
 
--- ---- a cut of the depth alone, over any places
-
-module _ {k : ℕ} (kc : ℕ) (W : ℕ → ℕ → Type 0) (c : Cut k) (even : (s : ℕ) → suc s < c .count → (q : ℕ) × (c .edge (suc s) ≡ c .edge s + q * kc)) where
-  pub depth-cuts : Cuts k (c .count) W (λ t. W) (c .edge) (λ t. c .edge (suc t) - c .edge t)
-  depth-cuts = record {
-    covered = λ i j q w l. let (s, hs, a, b) = locate c q l in (s, hs, w, omega arith);
-    once = λ t u i j q ht hu ot rt ou ru.
-        let a = c .grows t ht in
-        let b = c .grows u hu in
-        alone c t u q ht hu (omega arith) (omega arith) (omega arith) (omega arith);
-    rising = λ t u i j h l ot ou. rises c t u h (omega arith);
-  }
-
-  pub depth-proper : Proper kc k (c .count) W (λ t. W) (c .edge) (λ t. c .edge (suc t) - c .edge t)
-  depth-proper = record {
-    within = λ t i j h o. o;
-    ends = λ t h. omega (arith, c .grows t h, ends-inside c t h);
-    filled = λ t h. omega (arith, c .grows t h);
-    starts = λ t h. even-starts c kc even t h;
-  }
+  -- A GRID IS A CUT
+  pub grid-cuts : Cuts kc m k n (g .turns) (gridPiece g)
+  grid-cuts = cuts-of fits (λ t h. even-starts (g .depth) kc (g .even) (g .stretch t) (g .range t h .2)) divided

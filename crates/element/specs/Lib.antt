@@ -1,5 +1,7 @@
 pub mod Element
 pub mod Slice
+pub mod Stores
+pub mod Held
 pub mod Kinds
 pub mod Examples
 pub mod Real32
@@ -15,11 +17,13 @@ pub mod SliceLaws
 pub mod StoreLaws
 pub mod DepthLaws
 pub mod Agree
-pub mod Pieces
+pub mod Portions
 pub mod Chain
 pub mod CuttingTheorem
+pub mod Pieces
+pub mod PieceLaws
 pub mod Grid
 pub mod GridLaws
 pub mod GridExamples
-pub mod Runs
-pub mod RunLaws
+pub mod Lists
+pub mod ListLaws

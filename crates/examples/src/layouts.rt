@@ -117,7 +117,10 @@ fn collides(m: usize, n: usize, lc: Operand, c: &mut [f32]) {
 // What the need of an f32 call is, or that it is refused.
 fn need(m: usize, k: usize, n: usize) {
     match pack_length(Kind::F32, m, k, n) {
-        PackLength::TooLarge => show::text(b"sgemm need refused 1"),
+        PackLength::Refused(x) => {
+            show::text(b"sgemm need refused ");
+            show::whole(x.number());
+        }
         PackLength::Elements(x) => {
             show::text(b"sgemm need ");
             show::whole(x as u64);

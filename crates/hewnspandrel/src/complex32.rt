@@ -1,10 +1,13 @@
-// The kind complex f32, whose slices are slices of reals.
+// Derived from crates/hewnspandrel/src/real32.rt by tools/derive: edit that.
+// The functions of the kind Complex32, over slices of f32.
 ghost use Rattle.element.specs.declared.kind.Kind.the-variants.{C32};
+ghost use Rattle.element.specs.Complex32.{number};
+ghost use Rattle.call.specs.Call.{callOf};
 ghost use Rattle.hewnspandrel.specs.Answers.{Answered, Asked};
 use crate::length::Length;
 use crate::length::length_of;
 use cgemm::gemm::cgemm;
-use element::complex32::Complex32;
+use element::complex32::Number;
 use element::kind::Kind;
 use layout::operand::Operand;
 
@@ -14,17 +17,18 @@ pub extern "C" fn hewn_cgemm(
     m: usize,
     k: usize,
     n: usize,
-    alpha: Complex32,
+    alpha: Number,
     a: &[f32],
     la: Operand,
     b: &[f32],
     lb: Operand,
-    beta: Complex32,
+    beta: Number,
     c: &mut [f32],
     lc: Operand,
     pack: &mut [f32],
 ) -> u64
-    ensures { λ r. ⌜ Answered C32 (record { m = m; k = k; n = n; alpha = record { re = alpha .re; im = alpha .im }; beta = record { re = beta .re; im = beta .im }; a = la; b = lb; c = lc }) (now (a .entry)) (now (b .entry)) (now (c .entry)) (now (c .exit)) (now (pack .entry)) (now (pack .exit)) r ⌝ }
+    ensures { λ r. ⌜ Answered (callOf C32 m k n (number alpha) la lb (number beta) lc)
+        (now (a .entry)) (now (b .entry)) (now (c .entry)) (now (c .exit)) (now (pack .entry)) (now (pack .exit)) r ⌝ }
 {
     let r = cgemm(m, k, n, alpha, a, la, b, lb, beta, c, lc, pack);
     r.number()

@@ -14,15 +14,17 @@ pub struct Length {
 pub fn length_of(kind: Kind, m: usize, k: usize, n: usize) -> Length
     ensures { λ r. ⌜ Asked kind m k n r ⌝ }
 {
-    let found = pack_length(kind, m, k, n);
-    match found {
-        PackLength::TooLarge => Length {
-            answer: 1,
-            elements: 0,
-        },
+    match pack_length(kind, m, k, n) {
         PackLength::Elements(x) => Length {
             answer: 0,
             elements: x,
         },
+        PackLength::Refused(x) => {
+            let number = x.number();
+            Length {
+                answer: number,
+                elements: 0,
+            }
+        }
     }
 }

@@ -1,9 +1,12 @@
-// The kind f32.
+// The functions of the kind Real32, over slices of f32.
 ghost use Rattle.element.specs.declared.kind.Kind.the-variants.{F32};
+ghost use Rattle.element.specs.Real32.{number};
+ghost use Rattle.call.specs.Call.{callOf};
 ghost use Rattle.hewnspandrel.specs.Answers.{Answered, Asked};
 use crate::length::Length;
 use crate::length::length_of;
 use element::kind::Kind;
+use element::real32::Number;
 use layout::operand::Operand;
 use sgemm::gemm::sgemm;
 
@@ -13,17 +16,18 @@ pub extern "C" fn hewn_sgemm(
     m: usize,
     k: usize,
     n: usize,
-    alpha: f32,
+    alpha: Number,
     a: &[f32],
     la: Operand,
     b: &[f32],
     lb: Operand,
-    beta: f32,
+    beta: Number,
     c: &mut [f32],
     lc: Operand,
     pack: &mut [f32],
 ) -> u64
-    ensures { λ r. ⌜ Answered F32 (record { m = m; k = k; n = n; alpha = alpha; beta = beta; a = la; b = lb; c = lc }) (now (a .entry)) (now (b .entry)) (now (c .entry)) (now (c .exit)) (now (pack .entry)) (now (pack .exit)) r ⌝ }
+    ensures { λ r. ⌜ Answered (callOf F32 m k n (number alpha) la lb (number beta) lc)
+        (now (a .entry)) (now (b .entry)) (now (c .entry)) (now (c .exit)) (now (pack .entry)) (now (pack .exit)) r ⌝ }
 {
     let r = sgemm(m, k, n, alpha, a, la, b, lb, beta, c, lc, pack);
     r.number()

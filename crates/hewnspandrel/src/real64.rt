@@ -1,11 +1,14 @@
 // Derived from crates/hewnspandrel/src/real32.rt by tools/derive: edit that.
-// The kind f64.
+// The functions of the kind Real64, over slices of f64.
 ghost use Rattle.element.specs.declared.kind.Kind.the-variants.{F64};
+ghost use Rattle.element.specs.Real64.{number};
+ghost use Rattle.call.specs.Call.{callOf};
 ghost use Rattle.hewnspandrel.specs.Answers.{Answered, Asked};
 use crate::length::Length;
 use crate::length::length_of;
 use dgemm::gemm::dgemm;
 use element::kind::Kind;
+use element::real64::Number;
 use layout::operand::Operand;
 
 // dgemm, answered by its number.
@@ -14,17 +17,18 @@ pub extern "C" fn hewn_dgemm(
     m: usize,
     k: usize,
     n: usize,
-    alpha: f64,
+    alpha: Number,
     a: &[f64],
     la: Operand,
     b: &[f64],
     lb: Operand,
-    beta: f64,
+    beta: Number,
     c: &mut [f64],
     lc: Operand,
     pack: &mut [f64],
 ) -> u64
-    ensures { λ r. ⌜ Answered F64 (record { m = m; k = k; n = n; alpha = alpha; beta = beta; a = la; b = lb; c = lc }) (now (a .entry)) (now (b .entry)) (now (c .entry)) (now (c .exit)) (now (pack .entry)) (now (pack .exit)) r ⌝ }
+    ensures { λ r. ⌜ Answered (callOf F64 m k n (number alpha) la lb (number beta) lc)
+        (now (a .entry)) (now (b .entry)) (now (c .entry)) (now (c .exit)) (now (pack .entry)) (now (pack .exit)) r ⌝ }
 {
     let r = dgemm(m, k, n, alpha, a, la, b, lb, beta, c, lc, pack);
     r.number()

@@ -1,5 +1,5 @@
 -- Laws of `Tells`, and what is left where a test found nothing. Assumes nothing.
-use mathlib.Core.Path.{_≡_, refl, sym, subst}
+use mathlib.Core.Path.{_≡_, sym, subst}
 use mathlib.Core.Bool.{Bool, true, false}
 use mathlib.Core.Logic.{_⊎_, inl, inr}
 use Prim.Native.Nat.{ℕ, _<_, _≤_}
@@ -9,7 +9,7 @@ use lib.Dec.{ltb}
 use lib.IntN.{ℤ, pos, negsuc, natAbs}
 use borrow.Author.Tests.{ltb-true, ltb-false}
 use Rattle.layout.specs.declared.operand.Operand.{Operand}
-use Rattle.layout.specs.Place.{placeOf, Outside, SomeOutside, TwoMeet, LongStride}
+use Rattle.layout.specs.Place.{placeOf, Outside, SomeOutside, TwoMeet, Long}
 use Rattle.layout.specs.Operands.{Tells, Inside, AllInside, NoneMeet, Modest}
 use Rattle.layout.specs.Need.{Large}
 
@@ -31,13 +31,6 @@ tells-true x = record { if-true = λ e. x; if-false = λ e. true-false e }
 
 pub tells-false : {P : Type 0} → (P → ⊥) → Tells false P
 tells-false f = record { if-true = λ e. true-false (sym e); if-false = λ e. f }
-
--- any two answers that a contract allows are equal
-pub tells-same : (r r′ : Bool) {P : Type 0} → Tells r P → Tells r′ P → r ≡ r′
-tells-same true true x y = refl
-tells-same true false x y = absurd (y .if-false refl (x .if-true refl))
-tells-same false true x y = absurd (x .if-false refl (y .if-true refl))
-tells-same false false x y = refl
 
 -- a comparison of the code that is P
 pub tells-above : {x y : ℕ} {P : Type 0} → (x < y → P) → (P → x < y) → Tells (ltb x y) P
@@ -92,7 +85,7 @@ empty-apart (inr e) t = omega (arith, t .j<)
 
 -- ---- sizes and strides
 
-not-above : (bound x : ℕ) → (bound < x → ⊥) → x ≤ bound
+pub not-above : (bound x : ℕ) → (bound < x → ⊥) → x ≤ bound
 not-above bound x f = go (decLt bound x)
   where
     go : Dec (bound < x) → x ≤ bound
@@ -100,7 +93,8 @@ not-above bound x f = go (decLt bound x)
     go (no h) = omega arith
 
 pub not-large : {m k n : ℕ} → (Large m k n → ⊥) → (m ≤ 65536) × (k ≤ 65536) × (n ≤ 65536)
-not-large {m} {k} {n} f = (not-above 65536 m (λ h. f (inl h)), not-above 65536 k (λ h. f (inr (inl h))), not-above 65536 n (λ h. f (inr (inr h))))
+not-large {m} {k} {n} f =
+    (not-above 65536 m (λ h. f (inl h)), not-above 65536 k (λ h. f (inr (inl h))), not-above 65536 n (λ h. f (inr (inr h))))
 
 pub none-large : {m k n : ℕ} → m ≤ 65536 → k ≤ 65536 → n ≤ 65536 → Large m k n → ⊥
 none-large hm hk hn (inl x) = omega arith
@@ -116,13 +110,9 @@ tells-large {m} {k} {n} hm hk = tells-above (λ h. inr (inr h)) last
     last (inr (inl x)) = omega arith
     last (inr (inr x)) = x
 
-pub not-long : (o : Operand) → (LongStride o → ⊥) → (natAbs (o .rs) ≤ 2147483648) × (natAbs (o .cs) ≤ 2147483648)
+pub not-long : (o : Operand) → (Long o → ⊥) → (natAbs (o .rs) ≤ 2147483648) × (natAbs (o .cs) ≤ 2147483648)
 not-long o f = (not-above 2147483648 (natAbs (o .rs)) (λ h. f (inl h)), not-above 2147483648 (natAbs (o .cs)) (λ h. f (inr h)))
 
-pub none-long : (o : Operand) → natAbs (o .rs) ≤ 2147483648 → natAbs (o .cs) ≤ 2147483648 → LongStride o → ⊥
-none-long o hr hc (inl x) = omega arith
-none-long o hr hc (inr x) = omega arith
-
 -- what the two tests leave
-pub modest : {m n : ℕ} (o : Operand) → m ≤ 65536 → n ≤ 65536 → (LongStride o → ⊥) → Modest m n o
+pub modest : {m n : ℕ} (o : Operand) → m ≤ 65536 → n ≤ 65536 → (Long o → ⊥) → Modest m n o
 modest o hm hn f = record { m-max = hm; n-max = hn; rs-max = not-long o f .0; cs-max = not-long o f .1 }

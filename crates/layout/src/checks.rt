@@ -1,16 +1,16 @@
 // The tests of one operand's layout, each exact: a place outside the slice, two places that meet, a stride that is too large. The crate has
 // only debug assertions here.
 ghost use Prim.Native.Nat.{_<_};
-ghost use Rattle.layout.specs.Place.{SomeOutside, TwoMeet, LongStride};
+ghost use Rattle.layout.specs.Place.{SomeOutside, TwoMeet, Long};
 ghost use Rattle.layout.specs.Operands.{Tells, Modest};
-ghost use Rattle.layout.specs.Gcd.{Steps};
+ghost use Rattle.layout.specs.Splits.{LeastSteps};
 use crate::operand::Operand;
 use crate::strides::reach;
 use crate::strides::split_strides;
 
 // Is a stride above 2,147,483,648 in magnitude?
 pub fn too_long(o: Operand) -> bool
-    ensures { λ r. ⌜ Tells r (LongStride o) ⌝ }
+    ensures { λ r. ⌜ Tells r (Long o) ⌝ }
 {
     let s = split_strides(o);
     if s.rup + s.rdn > 2147483648 {
@@ -46,7 +46,7 @@ pub fn outside(rows: usize, columns: usize, o: Operand, len: usize) -> bool
 // The greatest common divisor, by Euclid's steps.
 fn gcd(a: usize, b: usize) -> usize
     requires { ⌜ 0 < a ⌝ }
-    ensures { λ r. ⌜ (0 < r) × Steps a b r ⌝ }
+    ensures { λ r. ⌜ (0 < r) × LeastSteps a b r ⌝ }
 {
     let mut x = a;
     let mut y = b;

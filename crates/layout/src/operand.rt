@@ -1,6 +1,6 @@
-// An operand's layout, the index of a place, and parts of an operand as operands. Rust: `stride_offset`, ptr.rs.
+// An operand's layout, the index of a place, the operand based at a place, and the transposed one. Rust: `stride_offset`, ptr.rs.
 ghost use mathlib.Core.Path.{_≡_};
-ghost use Rattle.layout.specs.Place.{indexOf, partOf};
+ghost use Rattle.layout.specs.Place.{indexOf, basedAt};
 ghost use Rattle.layout.specs.Operands.{Reachable, transposed};
 
 // Where place (0,0) lies, and the row and column strides, in whole elements.
@@ -23,9 +23,9 @@ pub fn place(o: Operand, i: usize, j: usize) -> usize
 }
 
 // The same matrix from place (i,j) on.
-pub fn part(o: Operand, i: usize, j: usize) -> Operand
+pub fn based_at(o: Operand, i: usize, j: usize) -> Operand
     requires { ⌜ Reachable o i j ⌝ }
-    ensures { λ r. ⌜ r ≡ partOf o i j ⌝ }
+    ensures { λ r. ⌜ r ≡ basedAt o i j ⌝ }
 {
     let base = place(o, i, j);
     let rs = o.rs;

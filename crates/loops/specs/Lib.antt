@@ -8,6 +8,6 @@ pub mod PutLaws
 pub mod LoopLaws
 pub mod TurnLaws
 pub mod BufferLaws
+pub mod RowLoop
 pub mod DepthLoop
 pub mod ColumnLoop
-pub mod OutcomeLaws

@@ -4,13 +4,14 @@ use mathlib.Core.List.{List, [], _∷_, _++_}
 use lib.ListN.{drop, getD}
 use lib.Ieee.{Float, nan}
 use Rattle.element.specs.Element.{Arith, Complex}
-use Rattle.element.specs.Runs.{cat}
-use Rattle.element.specs.Slice.{View}
-use Rattle.layout.specs.declared.operand.Operand.{Operand}
-use Rattle.layout.specs.Place.{indexOf}
+use Rattle.element.specs.Lists.{cat}
+use Rattle.element.specs.Kinds.{arithOf}
+use Rattle.element.specs.declared.kind.Kind.{Kind}
+use Rattle.element.specs.declared.kind.Kind.the-variants.{F32, F64, C32, C64}
 use Rattle.loops.specs.Tiles.{upTo}
 
--- How one depth step of a panel of width w lies in floats: how many there are, what they are where lane i holds g i, and lane i at depth p of a panel.
+-- How one depth step of a panel of width w lies in floats: how many there are, what they are where lane i holds g i, and lane i at depth p
+-- of a panel.
 pub record Packing (E : Type 0) : Type 0 where
   pub floats : ℕ → ℕ
   pub row : ℕ → (ℕ → E) → List Float
@@ -24,7 +25,7 @@ singles w g = cat w (λ i. g i ∷ [])
 abbrev pub realPacking : Packing Float
 realPacking = record { floats = λ w. w; row = λ w g. singles w g; lane = λ l w i p. getD l (p * w + i) nan }
 
--- the real part, part 0, or the imaginary part of a complex number
+-- the real half, 0, or the imaginary half of a complex number
 abbrev pub half : Complex → ℕ → Float
 half x zero = x .re
 half x (suc r) = x .im
@@ -37,10 +38,20 @@ complexPacking = record {
   lane = λ l w i p. record { re = getD l (p * (w + w) + i) nan; im = getD l (p * (w + w) + w + i) nan };
 }
 
--- the element of an operand at (i, p); and x at (i, p), with +0 from row m on
-abbrev pub elem : {E : Type 0} → View E → List Float → Operand → ℕ → ℕ → E
-elem v s o i p = v .get s (indexOf o i p)
+abbrev pub packingOf : (kind : Kind) → Packing (arithOf kind .E)
+packingOf F32 = realPacking
+packingOf F64 = realPacking
+packingOf C32 = complexPacking
+packingOf C64 = complexPacking
 
+-- how many floats an element is
+abbrev pub perElement : Kind → ℕ
+perElement F32 = 1
+perElement F64 = 1
+perElement C32 = 2
+perElement C64 = 2
+
+-- x at (i, p), with +0 from row m on
 abbrev pub padded : (ar : Arith) → ℕ → (ℕ → ℕ → ar .E) → ℕ → ℕ → ar .E
 padded ar m x i p = upTo ar m (λ i. x i p) i
 

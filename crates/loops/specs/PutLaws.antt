@@ -4,8 +4,8 @@ use mathlib.Core.Path.{_≡_}
 use mathlib.Core.List.{List}
 use native.Mathlib.Omega.{arith}
 use lib.Ieee.{Float}
-use Rattle.element.specs.Slice.{View, Updated, Block}
-use Rattle.element.specs.SliceLaws.{Region, across, down, rows, columns}
+use Rattle.element.specs.Slice.{View, Updated, Block, Region}
+use Rattle.element.specs.SliceLaws.{across, down, rows, columns}
 use Rattle.element.specs.ViewLaws.{Lawful}
 use Rattle.layout.specs.declared.operand.Operand.{Operand}
 use Rattle.layout.specs.Place.{indexOf}
@@ -22,7 +22,8 @@ module _ {E : Type 0} {v : View E} (ok : Lawful v) {oc : Operand} {h w len : ℕ
   line-next f i hi u x = rows ok (indexOf oc) i 1 w (λ k l n p q r z. t .apart k l n p (omega arith) (omega arith) z) u x
 
   -- the next element of a row's first ones, where a loop goes on past them
-  pub cell-masked : (f : ℕ → ℕ → E → E) (i j : ℕ) {C D B : List Float} → i < h → j < w → Updated v (indexOf oc) (Region i 1 0 (min j w)) f C D
+  pub cell-masked : (f : ℕ → ℕ → E → E) (i j : ℕ) {C D B : List Float} → i < h → j < w
+      → Updated v (indexOf oc) (Region i 1 0 (min j w)) f C D
       → Updated v (indexOf oc) (Region i 1 j 1) f D B → Updated v (indexOf oc) (Region i 1 0 (min (j + 1) w)) f C B
   cell-masked f i j hi hj u x =
       let a : min j w ≡ j = omega arith in

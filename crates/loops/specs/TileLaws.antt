@@ -1,8 +1,8 @@
 -- Laws of tables, of lines, of columns that are summed, and of arrays filled in order, for every kind and every tile size. Assumes nothing.
-use Prim.Native.Nat.{ℕ, zero, suc, _+_, _<_, _≤_}
+use Prim.Native.Nat.{ℕ, _+_, _<_, _≤_}
 use mathlib.Core.Path.{_≡_, refl, sym, ap, _∙_}
 use mathlib.Core.List.{List, []}
-use native.Mathlib.Nat.{not-suc-le-zero, le-of-suc-le-suc, zero-add}
+use native.Mathlib.Nat.{not-suc-le-zero, zero-add}
 use native.Mathlib.Decide.{decLt}
 use native.Mathlib.Omega.{arith}
 use native.Mathlib.Numerals.{add-one}
@@ -11,22 +11,12 @@ use lib.Seq.{ext-getD, getD-set-same, getD-set-other}
 use borrow.Author.Count.{below-more}
 use borrow.Author.Tests.{lt-ltb, le-ltb}
 use Rattle.element.specs.Element.{Arith, chunkSum}
-use Rattle.loops.specs.Tiles.{tab, upTo, Held, at, line, lines, cell, columns, stepped, summed, Filled}
+use Rattle.element.specs.Held.{Held}
+use Rattle.element.specs.Lists.{tab}
+use Rattle.element.specs.ListLaws.{getD-tab, length-tab, tab-ext}
+use Rattle.loops.specs.Tiles.{upTo, at, line, lines, cell, columns, stepped, summed, Filled}
 use Rattle.loops.specs.Panels.{padded}
 use Rattle.loops.specs.Work.{part}
-
-pub getD-tab : {A : Type 0} (n : ℕ) (g : ℕ → A) (i : ℕ) (z : A) → i < n → getD (tab n g) i z ≡ g i
-getD-tab zero g i z l = absurd (not-suc-le-zero l)
-getD-tab (suc n) g zero z l = refl
-getD-tab (suc n) g (suc i) z l = getD-tab n (λ k. g (suc k)) i z (le-of-suc-le-suc l)
-
-pub length-tab : {A : Type 0} (n : ℕ) (g : ℕ → A) → length (tab n g) ≡ n
-length-tab zero g = refl
-length-tab (suc n) g = ap suc (length-tab n (λ k. g (suc k)))
-
-pub tab-ext : {A : Type 0} (n : ℕ) (g h : ℕ → A) → ((i : ℕ) → i < n → g i ≡ h i) → tab n g ≡ tab n h
-tab-ext zero g h e = refl
-tab-ext (suc n) g h e = rw (e 0 (omega arith), tab-ext n (λ k. g (suc k)) (λ k. h (suc k)) (λ k l. e (suc k) (omega arith)))
 
 pub upTo-in : (ar : Arith) (n : ℕ) (g : ℕ → ar .E) (k : ℕ) → k < n → upTo ar n g k ≡ g k
 upTo-in ar n g k l = rw (lt-ltb k n l)

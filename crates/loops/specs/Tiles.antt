@@ -1,36 +1,17 @@
--- Numbers and lines of them as the code holds them, a tile while it is summed, and arrays that a loop fills. Definitions only.
-use Prim.Native.Nat.{ℕ, zero, suc, _≤_, _<_}
-use mathlib.Core.Path.{_≡_, refl}
-use mathlib.Core.List.{List, [], _∷_}
+-- Lines of numbers as the code holds them, a tile while it is summed, and arrays that a loop fills. Definitions only.
+use Prim.Native.Nat.{ℕ, _≤_, _<_}
+use mathlib.Core.Path.{_≡_}
+use mathlib.Core.List.{List, []}
 use mathlib.Core.Bool.{cond}
 use lib.Dec.{ltb}
 use lib.ListN.{length, getD}
-use lib.Ieee.{Float, nan}
 use Rattle.element.specs.Element.{Arith, chunkSum}
-
--- g 0, g 1, .. g (n-1)
-abbrev pub tab : {A : Type 0} → ℕ → (ℕ → A) → List A
-tab zero g = []
-tab (suc n) g = g 0 ∷ tab n (λ k. g (suc k))
+use Rattle.element.specs.Held.{Held}
+use Rattle.element.specs.Lists.{tab}
 
 -- g below n, and +0 from n on
 abbrev pub upTo : (ar : Arith) → ℕ → (ℕ → ar .E) → ℕ → ar .E
 upTo ar n g k = cond (ltb k n) (g k) (ar .nought)
-
--- an array of floats whose first n are g
-abbrev pub Begins : ℕ → List Float → (ℕ → Float) → Type 0
-Begins n x g = (i : ℕ) → i < n → getD x i nan ≡ g i
-
--- A number E as the code holds it, an N: `is` reads it, `of` writes it, and `none` stands where an array has ended.
-pub record Held (E N : Type 0) : Type 0 where
-  pub none : N
-  pub is : N → E
-  pub of : E → N
-  pub back : (x : E) → is (of x) ≡ x
-
--- a float is held as it is
-abbrev pub float : Held Float Float
-float = record { none = nan; is = λ x. x; of = λ x. x; back = λ x. refl }
 
 module _ {E N : Type 0} (held : Held E N) where
   -- number k of a line, which is a row or a column; a line of n numbers; h lines of n; number k of line l

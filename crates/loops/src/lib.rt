@@ -1,1 +1,1 @@
-// No code: the laws that every kind's kernel, packing and loops cite, over arithmetic, view, tile sides and chunk lengths.
+// What the four kinds share, in specs only: how panels, tiles, the pack buffer and the five loops are spoken of, and the laws of them.

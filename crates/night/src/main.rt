@@ -7,6 +7,7 @@ use element::kind::Kind;
 use layout::need::PackLength;
 use layout::need::pack_length;
 use layout::operand::Operand;
+use refusal::Refusal;
 
 const INVERTERS: usize = 4;
 
@@ -74,26 +75,35 @@ fn show_scores(scores: &Scores) {
     show_inverter(scores, 3);
 }
 
-// What an answer means, in document 01's words.
+// What a refusal means, in document 01's words.
+fn show_refusal(x: Refusal) {
+    match x {
+        Refusal::TooLarge => show::text(b"  refused with 1: a size is above 65,536"),
+        Refusal::TooFar => show::text(b"  refused with 2: a stride is above 2,147,483,648"),
+        Refusal::OutsideC => show::text(b"  refused with 3: a place of C is outside its slice"),
+        Refusal::CollidesC => show::text(b"  refused with 4: two places of C are the same element"),
+        Refusal::OutsideA => show::text(b"  refused with 5: a place of A is outside its slice"),
+        Refusal::OutsideB => show::text(b"  refused with 6: a place of B is outside its slice"),
+        Refusal::PackShort => show::text(
+            b"  refused with 7: the pack buffer is shorter than the need",
+        ),
+    }
+}
+
 fn show_answer(r: Answer) {
     match r {
         Answer::Done => show::text(b"  done"),
-        Answer::TooLarge => show::text(b"  refused with 1: a size is above 65,536"),
-        Answer::TooFar => show::text(b"  refused with 2: a stride is above 2,147,483,648"),
-        Answer::OutsideC => show::text(b"  refused with 3: a place of C is outside its slice"),
-        Answer::CollidesC => show::text(b"  refused with 4: two places of C are the same element"),
-        Answer::OutsideA => show::text(b"  refused with 5: a place of A is outside its slice"),
-        Answer::OutsideB => show::text(b"  refused with 6: a place of B is outside its slice"),
-        Answer::PackShort => show::text(
-            b"  refused with 7: the pack buffer is shorter than the need",
-        ),
+        Answer::Refused(x) => show_refusal(x),
     }
     show::text(b"\n");
 }
 
 fn show_need() {
     match pack_length(Kind::F64, INVERTERS, READINGS, SCORES) {
-        PackLength::TooLarge => show::text(b"the need is refused with 1"),
+        PackLength::Refused(x) => {
+            show::text(b"the need is refused with ");
+            show::whole(x.number());
+        }
         PackLength::Elements(x) => {
             show::text(b"the pack buffer needs ");
             show::whole(x as u64);

@@ -3,9 +3,9 @@ use Prim.Native.Nat.{ℕ, suc, _<_}
 use mathlib.Core.Path.{_≡_}
 use mathlib.Core.List.{List, []}
 use lib.ListN.{length, getD, drop}
-use Rattle.sample.specs.declared.calls.Outcome.{Outcome}
+use Rattle.sample.specs.declared.calls.Comparison.{Comparison}
 use Rattle.sample.specs.Calls.{sizeOf, IsCall}
-use Rattle.replayed.specs.Replayed.{kindOf, lengthsOf, Replayed}
+use Rattle.replayed.specs.Replayed.{kindOf, packOf, lengthsOf, Replayed}
 use Rattle.replay.specs.declared.Contents.{Contents}
 
 -- w begins with so many calls, and `rest` is behind them
@@ -27,7 +27,7 @@ ContentsAre w (Contents.Malformed n) = Broken w n
 -- the call that w begins with is of the kind, and agrees
 pub record Agreeing (kind : ℕ) (w : List ℕ) : Type 0 where
   pub of-kind : getD w 0 0 ≡ kind
-  pub agrees : Replayed (kindOf (getD w 0 0)) w (lengthsOf w) Outcome.Agrees
+  pub agrees : Replayed (kindOf (getD w 0 0)) w (packOf w) (lengthsOf w) Comparison.Agrees
 
 -- of the calls that w begins with, before `rest`, so many are of the kind and agree
 pub data Agreed (kind : ℕ) (w : List ℕ) : ℕ → List ℕ → Type 0 where

@@ -2,14 +2,14 @@
 ghost use mathlib.Core.Path.{_≡_};
 ghost use lib.ListN.{getD};
 ghost use Rattle.layout.specs.Operands.{Tells};
-ghost use Rattle.sample.specs.declared.calls.Outcome.{Outcome};
-ghost use Rattle.replayed.specs.Replayed.{kindOf, lengthsOf, Replayed};
+ghost use Rattle.sample.specs.declared.calls.Comparison.{Comparison};
+ghost use Rattle.replayed.specs.Replayed.{kindOf, packOf, lengthsOf, Replayed};
 ghost use Rattle.replay.specs.File.{ContentsAre, Agreeing, Counted};
 use libc::STDOUT_FILENO;
 use replayed::reals32;
 use replayed::reals64;
+use sample::calls::Comparison;
 use sample::calls::KIND;
-use sample::calls::Outcome;
 use sample::calls::first_call;
 use sample::words::after;
 use sample::words::from_bytes;
@@ -46,18 +46,18 @@ fn print_call(number: u64) {
     io::print_decimal(STDOUT_FILENO, number);
 }
 
-// Is the outcome that the call agrees? Where it is not, says what disagrees.
-fn report(number: u64, outcome: Outcome) -> bool
-    ensures { λ r. ⌜ Tells r (outcome ≡ Outcome.Agrees) ⌝ }
+// Does the call agree? Where it does not, says what disagrees.
+fn report(number: u64, found: Comparison) -> bool
+    ensures { λ r. ⌜ Tells r (found ≡ Comparison.Agrees) ⌝ }
 {
-    match outcome {
-        Outcome::Agrees => true,
-        Outcome::Answer => {
+    match found {
+        Comparison::Agrees => true,
+        Comparison::Answer => {
             print_call(number);
             print(b" disagrees: answer\n");
             false
         }
-        Outcome::Place(place) => {
+        Comparison::Place(place) => {
             print_call(number);
             print(b" disagrees: place ");
             io::print_decimal(STDOUT_FILENO, place as u64);
@@ -67,8 +67,9 @@ fn report(number: u64, outcome: Outcome) -> bool
     }
 }
 
-fn replay(call: &[u64]) -> Outcome
-    ensures { λ r. ⌜ Replayed (kindOf (getD (now (call .entry)) 0 0)) (now (call .entry)) (lengthsOf (now (call .entry))) r ⌝ }
+fn replay(call: &[u64]) -> Comparison
+    ensures { λ r. ⌜ Replayed (kindOf (getD (now (call .entry)) 0 0)) (now (call .entry)) (packOf (now (call .entry)))
+        (lengthsOf (now (call .entry))) r ⌝ }
 {
     if word_at(call, KIND) % 2 == 0 {
         return reals32::replay(call);

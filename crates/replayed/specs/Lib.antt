@@ -1,3 +1,3 @@
 pub mod Replayed
-pub mod RunLaws
+pub mod ReplayLaws
 pub mod SameReplay

@@ -7,7 +7,7 @@ use lib.Dec.{ltb}
 use lib.ListN.{length, getD}
 use lib.Ieee.{Float, nan, Format, top, ofBits}
 use Rattle.element.specs.Element.{Complex}
-use Rattle.loops.specs.Tiles.{tab}
+use Rattle.element.specs.Lists.{tab}
 
 -- the float whose pattern a word is, a NaN where it is larger than every pattern of the format
 unfoldable pub floatOf : Format → ℕ → Float

@@ -5,7 +5,6 @@ use mathlib.Core.List.{List}
 use native.Mathlib.Decide.{decLt}
 use native.Mathlib.Omega.{arith}
 use lib.Ieee.{Float, Format}
-use lib.ListN.{length}
 use Rattle.sample.specs.Floats.{FirstDifference}
 
 -- ANY TWO FIRST DIFFERENCES ARE EQUAL, also where there is none

@@ -1,8 +1,8 @@
 // How a call lies in its words: 21 words of numbers, the floats of A, B and C, the answer, and C's floats after the call.
 ghost use mathlib.Core.Path.{_≡_};
 ghost use Prim.Native.Nat.{_≤_};
+ghost use Rattle.refusal.specs.Order.{First};
 ghost use Rattle.layout.specs.Operands.{Tells};
-ghost use Rattle.call.specs.Demands.{First};
 ghost use Rattle.sample.specs.Calls.{operandAt, matricesOf, lengthAt, sizeOf, Short, Patterns, HoldsFloats, IsCall};
 use crate::words::after;
 use crate::words::signed;
@@ -36,7 +36,7 @@ const LONGEST: u64 = 4096;
 const LARGEST: u64 = 0xffff_ffff;
 
 // What a call came to: as recorded, another answer, or another float at a place of C's slice.
-pub enum Outcome {
+pub enum Comparison {
     Agrees,
     Answer,
     Place(usize),

@@ -3,7 +3,7 @@ ghost use mathlib.Core.Path.{_≡_};
 ghost use Prim.Native.Nat.{_*_, _<_};
 ghost use lib.Ieee.{binary32, top};
 ghost use lib.ListN.{length, drop};
-ghost use Rattle.element.specs.Complex32.{asComplex};
+ghost use Rattle.element.specs.Complex32.{number};
 ghost use Rattle.layout.specs.Operands.{Tells};
 ghost use Rattle.sample.specs.Floats.{floatOf, floatsOf, complexOf, FirstDifference};
 use crate::words::after;
@@ -81,7 +81,7 @@ pub fn first_difference(floats: &[f32], words: &[u64]) -> usize
 
 // The complex number whose parts the first two words hold.
 pub fn complex_of(parts: &[u64]) -> Complex32
-    ensures { λ r. ⌜ asComplex r ≡ complexOf binary32 (now (parts .entry)) ⌝ }
+    ensures { λ r. ⌜ number r ≡ complexOf binary32 (now (parts .entry)) ⌝ }
 {
     Complex32 {
         re: float_of(word_at(parts, 0)),

@@ -4,7 +4,7 @@ ghost use mathlib.Core.Path.{_≡_};
 ghost use Prim.Native.Nat.{_*_, _<_};
 ghost use lib.Ieee.{binary64, top};
 ghost use lib.ListN.{length, drop};
-ghost use Rattle.element.specs.Complex64.{asComplex};
+ghost use Rattle.element.specs.Complex64.{number};
 ghost use Rattle.layout.specs.Operands.{Tells};
 ghost use Rattle.sample.specs.Floats.{floatOf, floatsOf, complexOf, FirstDifference};
 use crate::words::after;
@@ -82,7 +82,7 @@ pub fn first_difference(floats: &[f64], words: &[u64]) -> usize
 
 // The complex number whose parts the first two words hold.
 pub fn complex_of(parts: &[u64]) -> Complex64
-    ensures { λ r. ⌜ asComplex r ≡ complexOf binary64 (now (parts .entry)) ⌝ }
+    ensures { λ r. ⌜ number r ≡ complexOf binary64 (now (parts .entry)) ⌝ }
 {
     Complex64 {
         re: float_of(word_at(parts, 0)),

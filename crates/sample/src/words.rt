@@ -4,7 +4,7 @@ ghost use Prim.Native.Nat.{_<_, _^_};
 ghost use lib.ListN.{length, getD, drop};
 ghost use mir.Syntax.{w64};
 ghost use mir.Val.{toZ};
-ghost use Rattle.loops.specs.Tiles.{tab};
+ghost use Rattle.element.specs.Lists.{tab};
 ghost use Rattle.sample.specs.Words.{numberAt, wordOf};
 
 // The byte at an index, 0 past the end.

@@ -1,6 +1,8 @@
 // The entry point. Rust: `sgemm`, gemm.rs.
 ghost use Rattle.element.specs.declared.kind.Kind.the-variants.{F32};
-ghost use Rattle.call.specs.Demands.{Outcome};
+ghost use Rattle.element.specs.Real32.{number};
+ghost use Rattle.call.specs.Call.{callOf};
+ghost use Rattle.call.specs.Outcome.{Outcome};
 use crate::outer::gemm_loop;
 use crate::scale::c_to_beta_c;
 use call::answer::Answer;
@@ -8,33 +10,36 @@ use call::judge::Lengths;
 use call::judge::judged;
 use element::kind::Kind;
 use element::real32::Fate;
+use element::real32::Number;
+use element::real32::Real32;
 use layout::operand::Operand;
 
-// C becomes alpha A B + beta C: A is m by k, B is k by n, C is m by n, each where its operand says in its slice. Done, or a refusal that
-// leaves C and pack as they were. Done, pack holds anything in its first need elements.
+// C becomes alpha A B + beta C: A is m by k, B is k by n, C is m by n, each where its operand says in its slice, an element as
+// Real32::FLOATS neighbouring floats. Done, or a refusal that leaves C and pack as they were. Done, pack holds anything in its first
+// need elements.
 pub fn sgemm(
     m: usize,
     k: usize,
     n: usize,
-    alpha: f32,
+    alpha: Number,
     a: &[f32],
     la: Operand,
     b: &[f32],
     lb: Operand,
-    beta: f32,
+    beta: Number,
     c: &mut [f32],
     lc: Operand,
     pack: &mut [f32],
 ) -> Answer
-    ensures { λ r. ⌜ Outcome F32 (record { m = m; k = k; n = n; alpha = alpha; beta = beta; a = la; b = lb; c = lc }) (now (a .entry)) (now (b .entry)) (now (c .entry)) (now (c .exit)) (now (pack .entry)) (now (pack .exit)) r ⌝ }
+    ensures { λ r. ⌜ Outcome (callOf F32 m k n (number alpha) la lb (number beta) lc)
+        (now (a .entry)) (now (b .entry)) (now (c .entry)) (now (c .exit)) (now (pack .entry)) (now (pack .exit)) r ⌝ }
 {
     let floats = Lengths {
         a: a.len(),
         b: b.len(),
         c: c.len(),
-        pack: pack.len(),
     };
-    let r = judged(Kind::F32, m, k, n, la, lb, lc, floats);
+    let r = judged(Kind::F32, pack.len(), m, k, n, la, lb, lc, floats);
     if r.number() != 0 {
         return r;
     }
@@ -48,6 +53,20 @@ pub fn sgemm(
         c_to_beta_c(m, n, Fate::from_beta(beta), c, lc);
         return r;
     }
-    gemm_loop(m, k, n, alpha, a, la, b, lb, beta, c, lc, pack);
+    gemm_loop(
+        Real32::DEPTH_CHUNK,
+        m,
+        k,
+        n,
+        alpha,
+        a,
+        la,
+        b,
+        lb,
+        beta,
+        c,
+        lc,
+        pack,
+    );
     r
 }

@@ -1,4 +1,4 @@
-// sgemm: C becomes alpha A B + beta C, in f32.
+// sgemm: C becomes alpha A B + beta C, in the kind Real32.
 pub mod gemm;
 mod outer;
 mod packed;

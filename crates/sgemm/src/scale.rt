@@ -2,24 +2,28 @@
 ghost use Prim.Native.Nat.{_<_};
 ghost use lib.ListN.{length};
 ghost use Rattle.element.specs.Element.{scaled};
-ghost use Rattle.element.specs.Slice.{Updated, Block};
-ghost use Rattle.element.specs.SliceLaws.{Region};
+ghost use Rattle.element.specs.Slice.{Updated, Block, Region};
 ghost use Rattle.element.specs.Real32.{arith, view, fateOf};
 ghost use Rattle.layout.specs.Place.{indexOf};
 ghost use Rattle.layout.specs.Operands.{Writable};
 use element::real32::Fate;
+use element::real32::read;
+use element::real32::write;
 use layout::operand::Operand;
 use layout::operand::place;
 
+// The element (i,j) of C: beta times it, or +0 where beta is zero.
 fn scale_one(m: usize, n: usize, fate: Fate, c: &mut [f32], lc: Operand, i: usize, j: usize)
     requires { ⌜ Writable m n lc (view .count (length (now c))) ⌝ }
     requires { ⌜ (i < m) × (j < n) ⌝ }
     ensures { λ _. ⌜ Updated view (indexOf lc) (Region i 1 j 1) (λ i j. scaled arith (fateOf fate)) (now (c .entry)) (now (c .exit)) ⌝ }
 {
     let at = place(lc, i, j);
-    c[at] = fate.scaled(c[at]);
+    let old = read(c, at);
+    write(c, at, fate.scaled(old));
 }
 
+// Row i of C.
 fn scale_row(m: usize, n: usize, fate: Fate, c: &mut [f32], lc: Operand, i: usize)
     requires { ⌜ Writable m n lc (view .count (length (now c))) ⌝ }
     requires { ⌜ i < m ⌝ }

@@ -1,6 +1,6 @@
 -- A float that equals itself is no NaN, so its bits are defined. Assumes nothing.
 use mathlib.Core.Path.{_≡_, sym, subst, _∙_}
-use mathlib.Core.Bool.{Bool, true, false, not}
+use mathlib.Core.Bool.{false, not}
 use lib.Dec.{T}
 use lib.Ieee.{Float, nan, inf, fin, isNan, ne}
 use lib.Ieee.Compare.{nan-differs}

@@ -44,7 +44,7 @@ fn place(o: Operand, i: usize, j: usize) -> usize {
     (o.base as isize + i as isize * o.rs + j as isize * o.cs) as usize
 }
 
-fn part(o: Operand, i: usize, j: usize) -> Operand {
+fn based_at(o: Operand, i: usize, j: usize) -> Operand {
     Operand { base: place(o, i, j), ..o }
 }
 
@@ -63,7 +63,7 @@ fn real_loop<K: Kind, const MR: usize, const NR: usize>(
         let nc = K::COLUMN_CHUNK.min(n - j);
         for p in (0..k).step_by(K::DEPTH_CHUNK) {
             let kc = K::DEPTH_CHUNK.min(k - p);
-            pack_real::<K::R, NR>(kc, nc, b_pack, b, transposed(part(lb, p, j)));
+            pack_real::<K::R, NR>(kc, nc, b_pack, b, transposed(based_at(lb, p, j)));
             let fate = match p {
                 0 if K::is_zero(call.beta) => Fate::Overwrite,
                 0 => Fate::Times(beta),
@@ -71,8 +71,8 @@ fn real_loop<K: Kind, const MR: usize, const NR: usize>(
             };
             for i in (0..m).step_by(K::ROW_CHUNK) {
                 let mc = K::ROW_CHUNK.min(m - i);
-                pack_real::<K::R, MR>(kc, mc, a_pack, a, part(la, i, p));
-                real_packed::<K::R, MR, NR>(nc, kc, mc, alpha, a_pack, b_pack, fate, c, part(lc, i, j));
+                pack_real::<K::R, MR>(kc, mc, a_pack, a, based_at(la, i, p));
+                real_packed::<K::R, MR, NR>(nc, kc, mc, alpha, a_pack, b_pack, fate, c, based_at(lc, i, j));
             }
         }
     }
@@ -104,7 +104,7 @@ fn real_packed<R: Real, const MR: usize, const NR: usize>(
     for j in (0..nc).step_by(NR) {
         for i in (0..mc).step_by(MR) {
             let tile = real_tile::<R, MR, NR>(&a[i * kc..(i + MR) * kc], &b[j * kc..(j + NR) * kc]);
-            put_real(alpha, &tile, fate, c, part(lc, i, j), MR.min(mc - i), NR.min(nc - j));
+            put_real(alpha, &tile, fate, c, based_at(lc, i, j), MR.min(mc - i), NR.min(nc - j));
         }
     }
 }
@@ -148,7 +148,7 @@ fn complex_loop<K: Kind, const MR: usize, const NR: usize>(
         let nc = K::COLUMN_CHUNK.min(n - j);
         for p in (0..k).step_by(K::DEPTH_CHUNK) {
             let kc = K::DEPTH_CHUNK.min(k - p);
-            pack_complex::<K::R, NR>(kc, nc, b_pack, b, transposed(part(lb, p, j)));
+            pack_complex::<K::R, NR>(kc, nc, b_pack, b, transposed(based_at(lb, p, j)));
             let fate = match p {
                 0 if K::is_zero(beta) => Fate::Overwrite,
                 0 => Fate::Times(beta),
@@ -156,8 +156,8 @@ fn complex_loop<K: Kind, const MR: usize, const NR: usize>(
             };
             for i in (0..m).step_by(K::ROW_CHUNK) {
                 let mc = K::ROW_CHUNK.min(m - i);
-                pack_complex::<K::R, MR>(kc, mc, a_pack, a, part(la, i, p));
-                complex_packed::<K, MR, NR>(nc, kc, mc, alpha, a_pack, b_pack, fate, c, part(lc, i, j));
+                pack_complex::<K::R, MR>(kc, mc, a_pack, a, based_at(la, i, p));
+                complex_packed::<K, MR, NR>(nc, kc, mc, alpha, a_pack, b_pack, fate, c, based_at(lc, i, j));
             }
         }
     }
@@ -186,7 +186,7 @@ fn complex_packed<K: Kind, const MR: usize, const NR: usize>(
     for j in (0..nc).step_by(NR) {
         for i in (0..mc).step_by(MR) {
             let tile = complex_tile::<K, MR, NR>(&a[2 * i * kc..2 * (i + MR) * kc], &b[2 * j * kc..2 * (j + NR) * kc]);
-            put_complex::<K, MR, NR>(alpha, &tile, fate, c, part(lc, i, j), MR.min(mc - i), NR.min(nc - j));
+            put_complex::<K, MR, NR>(alpha, &tile, fate, c, based_at(lc, i, j), MR.min(mc - i), NR.min(nc - j));
         }
     }
 }

@@ -1,99 +1,45 @@
 -- `replay::agreeing` meets its contract. The invariant: of the calls before `at`, which are no more than words, `agreed` agree. The measure
 -- is how many words are left. Assumes nothing.
-use Prim.Native.Nat.{_+_, _-_, _≤_}
+use Prim.Native.Nat.{_-_}
 use mathlib.Core.Logic.{⊎-elim}
 use native.Mathlib.Omega.{arith}
 use borrow.Author.Needs.{needs}
-use lib.ListN.{length, drop}
+use lib.ListN.{length}
 use denote.Ref.{now}
-use Rattle.replay.specs.File.{Agreed}
-use Rattle.replay.specs.FileLaws.{no-call-at, call-at, within, none-left, agreed-more, agreed-same}
+use Rattle.replay.specs.FileLaws.{Found, found-at, Tallied, none-tallied, counted, all-counted, one-agrees, one-disagrees}
 use Rattle.replay.proofs.agreeing.Statement.{statement}
 use Rattle.replay.proofs.agreeing.Tie as tie
 
 abbrev Inv-loop : tie.InvT-loop
-Inv-loop words kind agreed₀ at₀ number₀ agreed at number =
-    (at ≤ length words) × (number ≤ at) × (agreed ≤ number) × Agreed kind words agreed (drop at words)
+Inv-loop words kind agreed₀ at₀ number₀ agreed at number = Tallied kind words agreed at number
 
 abbrev μ-loop : tie.MeasureT-loop
 μ-loop words kind agreed₀ at₀ number₀ agreed at number = length words - at
 
--- the words that a call takes are there
-whole : (c : tie.After-first-call Inv-loop μ-loop)
-    → c .before .before .before .loop .at + c .first-call .result ≤ length (now (c .before .before .before .before .before .args .words))
-whole c =
-    let at = c .before .before .before .loop in
-    let w = now (c .before .before .before .before .before .args .words) in
-    within w (at .at) (c .before .after .ensures) (c .first-call .ensures) (at .inv .0)
+abbrev at-loop : tie.After-first-call Inv-loop μ-loop → tie.At-loop Inv-loop μ-loop
+at-loop c = c .before .before .before
 
-loop-holds : tie.Need-loop-holds Inv-loop μ-loop
-loop-holds c = (omega arith, omega arith, omega arith, Agreed.none)
-
-after-requires : tie.Need-after-requires Inv-loop μ-loop
-after-requires c κs = search needs
-
-first-call-requires : tie.Need-first-call-requires Inv-loop μ-loop
-first-call-requires c κs = search needs
+found : (c : tie.After-first-call Inv-loop μ-loop)
+    → Found (now (at-loop c .before .before .args .words)) (at-loop c .loop .at) (c .first-call .result)
+found c = found-at _ _ (at-loop c .loop .inv .within) (c .before .after .ensures) (c .first-call .ensures)
 
 returns : tie.Need-returns Inv-loop μ-loop
-returns c =
-    let at = c .before .before .before .before .loop in
-    let w = now (c .before .before .before .before .before .before .args .words) in
-    record {
-      rest = drop (at .at) w;
-      agreed = at .inv .3;
-      no-call = no-call-at w (at .at) (c .before .before .after .ensures) (c .before .first-call .ensures) (c .if1 .taken);
-    }
-
-agrees-requires : tie.Need-agrees-requires Inv-loop μ-loop
-agrees-requires c κs = search needs
-
-add-agreed : tie.Need-add-agreed Inv-loop μ-loop
-add-agreed c = search needs
-
-add-at : tie.Need-add-at Inv-loop μ-loop
-add-at c = let there = whole (c .before .before .before) in omega arith
-
-add-number : tie.Need-add-number Inv-loop μ-loop
-add-number c = let there = whole (c .before .before .before) in omega arith
-
-loop-less : tie.Need-loop-less Inv-loop μ-loop
-loop-less c = let there = whole (c .before .before .before) in omega arith
+returns c = counted (at-loop (c .before) .loop .inv) (found (c .before) .none (c .if1 .taken))
 
 loop-again : tie.Need-loop-again Inv-loop μ-loop
 loop-again c =
-    let at = c .before .before .before .before .before .before .loop in
-    let w = now (c .before .before .before .before .before .before .before .before .args .words) in
-    let e = c .before .before .before .before .after .ensures in
-    let found = c .before .before .before .first-call .ensures in
-    let there = whole (c .before .before .before) in
-    let call = call-at w (at .at) e found (c .before .before .if1 .left) in
     let told = c .before .agrees .ensures in
+    let call = c .before .before .before in
+    let some = c .before .before .if1 .left in
     ⊎-elim
-    (λ v. (there, omega arith, omega arith, agreed-more w (at .at) (at .inv .3) call e told (v .0 .taken) (v .1)))
-    (λ v. (there, omega arith, omega arith, agreed-same w (at .at) (at .inv .3) call e told (v .0 .left) (v .1)))
+    (λ v. one-agrees (at-loop call .loop .inv) (found call) some (call .before .after .ensures) told (v .0 .taken) (v .1))
+    (λ v. one-disagrees (at-loop call .loop .inv) (found call) some (call .before .after .ensures) told (v .0 .left) (v .1))
     (c .if2 .came)
-
-returns-2 : tie.Need-returns-2 Inv-loop μ-loop
-returns-2 c =
-    let at = c .before .loop in
-    let w = now (c .before .before .before .args .words) in
-    record { rest = drop (at .at) w; agreed = at .inv .3; no-call = none-left w (at .at) (omega arith) }
 
 pub agreeing-spec : {M : Type 1} → statement M
 agreeing-spec =
     tie.close
-    (tie.spec
-    Inv-loop
-    μ-loop
-    loop-holds
-    after-requires
-    first-call-requires
-    returns
-    agrees-requires
-    add-agreed
-    add-at
-    add-number
-    loop-less
-    loop-again
-    returns-2)
+    (tie.spec Inv-loop μ-loop (λ c. none-tallied _ _) (λ c κs. search needs) (λ c κs. search needs) returns (λ c κs. search needs)
+    (λ c. search needs) (λ c. omega (arith, found (c .before .before .before) .there))
+    (λ c. omega (arith, found (c .before .before .before) .there)) (λ c. omega (arith, found (c .before .before .before) .there))
+    loop-again (λ c. all-counted (c .before .loop .inv) (omega arith)))

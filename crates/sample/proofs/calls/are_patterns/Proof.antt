@@ -16,23 +16,8 @@ Inv-loop words i₀ i = (i ≤ length words) × ((k : ℕ) → k < i → getD wo
 abbrev μ-loop : tie.MeasureT-loop
 μ-loop words i₀ i = length words - i
 
-loop-holds : tie.Need-loop-holds Inv-loop μ-loop
-loop-holds c = (omega arith, λ k l. absurd (omega arith))
-
-mul-if1 : tie.Need-mul-if1 Inv-loop μ-loop
-mul-if1 c = search needs
-
-shared-slice-read-if1 : tie.Need-shared-slice-read-if1 Inv-loop μ-loop
-shared-slice-read-if1 c = search needs
-
 returns : tie.Need-returns Inv-loop μ-loop
 returns c = tells-false (λ all. omega (arith, all (c .before .before .before .loop .i) (omega arith)))
-
-add-i : tie.Need-add-i Inv-loop μ-loop
-add-i c = search needs
-
-loop-less : tie.Need-loop-less Inv-loop μ-loop
-loop-less c = search needs
 
 loop-again : tie.Need-loop-again Inv-loop μ-loop
 loop-again c = let at = c .before .before .before .loop in (omega arith, below-more _ (at .i) (at .inv .1) (omega arith))
@@ -40,17 +25,14 @@ loop-again c = let at = c .before .before .before .loop in (omega arith, below-m
 returns-2 : tie.Need-returns-2 Inv-loop μ-loop
 returns-2 c = tells-true (λ k l. c .before .loop .inv .1 k (omega arith))
 
+-- a line for each statement
 pub are-patterns-spec : {M : Type 1} → statement M
 are-patterns-spec =
     tie.close
-    (tie.spec
-    Inv-loop
-    μ-loop
-    loop-holds
-    mul-if1
-    shared-slice-read-if1
+    (tie.spec Inv-loop μ-loop
+    (λ c. search needs)
+    (λ c. search needs) (λ c. search needs)
     returns
-    add-i
-    loop-less
-    loop-again
+    (λ c. search needs)
+    (λ c. search needs) loop-again
     returns-2)

@@ -7,18 +7,6 @@ use Rattle.sample.specs.Calls.{Patterns}
 use Rattle.sample.proofs.calls.holds_floats.Statement.{statement}
 use Rattle.sample.proofs.calls.holds_floats.Tie as tie
 
-word-at-requires : tie.Need-word-at-requires
-word-at-requires c κs = search needs
-
-returns : tie.Need-returns
-returns c = tells-true (λ even. absurd (omega arith))
-
-after-requires : tie.Need-after-requires
-after-requires c κs = search needs
-
-are-patterns-requires : tie.Need-are-patterns-requires
-are-patterns-requires c κs = search needs
-
 returns-2 : tie.Need-returns-2
 returns-2 c =
     let words = c .before .after .ensures in
@@ -27,4 +15,7 @@ returns-2 c =
     (λ t floats. c .are-patterns .ensures .if-false t (subst Patterns (sym words) (floats (omega arith))))
 
 pub holds-floats-spec : {M : Type 1} → statement M
-holds-floats-spec = tie.close (tie.spec word-at-requires returns after-requires are-patterns-requires returns-2)
+holds-floats-spec =
+    tie.close
+    (tie.spec (λ c κs. search needs) (λ c. tells-true (λ even. absurd (omega arith))) (λ c κs. search needs) (λ c κs. search needs)
+    returns-2)

@@ -3,24 +3,6 @@ use borrow.Author.Needs.{needs}
 use Rattle.sample.proofs.calls.matrices_of.Statement.{statement}
 use Rattle.sample.proofs.calls.matrices_of.Tie as tie
 
-word-at-requires : tie.Need-word-at-requires
-word-at-requires c κs = search needs
-
-word-at-requires-2 : tie.Need-word-at-requires-2
-word-at-requires-2 c κs = search needs
-
-word-at-requires-3 : tie.Need-word-at-requires-3
-word-at-requires-3 c κs = search needs
-
-operand-at-requires : tie.Need-operand-at-requires
-operand-at-requires c κs = search needs
-
-operand-at-requires-2 : tie.Need-operand-at-requires-2
-operand-at-requires-2 c κs = search needs
-
-operand-at-requires-3 : tie.Need-operand-at-requires-3
-operand-at-requires-3 c κs = search needs
-
 returns : tie.Need-returns
 returns c = λ i. record {
   m = c .before .before .before .before .before .word-at .ensures i;
@@ -34,11 +16,5 @@ returns c = λ i. record {
 pub matrices-of-spec : {M : Type 1} → statement M
 matrices-of-spec =
     tie.close
-    (tie.spec
-    word-at-requires
-    word-at-requires-2
-    word-at-requires-3
-    operand-at-requires
-    operand-at-requires-2
-    operand-at-requires-3
-    returns)
+    (tie.spec (λ c κs. search needs) (λ c κs. search needs) (λ c κs. search needs) (λ c κs. search needs) (λ c κs. search needs)
+    (λ c κs. search needs) returns)

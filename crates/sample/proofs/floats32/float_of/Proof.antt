@@ -16,9 +16,6 @@ returns c = zero-by-zero binary32 ∙ large-float binary32 (c .before .args .wor
 returns-2 : tie.Need-returns-2
 returns-2 c = zero-by-zero binary32 ∙ nan-float binary32 (c .before .before .args .word) (omega arith) (omega arith)
 
-narrow-requires : tie.Need-narrow-requires
-narrow-requires c κs = omega arith
-
 float-from-bits-result : tie.Need-float-from-bits-result
 float-from-bits-result c =
     let w = c .before .before .before .args .word in
@@ -30,4 +27,4 @@ returns-3 c =
     ap (ofBits binary32) (c .narrow .ensures) ∙ pattern-float binary32 w (omega arith)
 
 pub float-of-spec : {M : Type 1} → statement M
-float-of-spec = tie.close (tie.spec returns returns-2 narrow-requires float-from-bits-result returns-3)
+float-of-spec = tie.close (tie.spec returns returns-2 (λ c κs. omega arith) float-from-bits-result returns-3)

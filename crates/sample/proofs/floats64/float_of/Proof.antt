@@ -17,9 +17,6 @@ returns c = zero-by-zero binary64 ∙ large-float binary64 (c .before .args .wor
 returns-2 : tie.Need-returns-2
 returns-2 c = zero-by-zero binary64 ∙ nan-float binary64 (c .before .before .args .word) (omega arith) (omega arith)
 
-narrow-requires : tie.Need-narrow-requires
-narrow-requires c κs = omega arith
-
 float-from-bits-result : tie.Need-float-from-bits-result
 float-from-bits-result c =
     let w = c .before .before .before .args .word in
@@ -31,4 +28,4 @@ returns-3 c =
     ap (ofBits binary64) (c .narrow .ensures) ∙ pattern-float binary64 w (omega arith)
 
 pub float-of-spec : {M : Type 1} → statement M
-float-of-spec = tie.close (tie.spec returns returns-2 narrow-requires float-from-bits-result returns-3)
+float-of-spec = tie.close (tie.spec returns returns-2 (λ c κs. omega arith) float-from-bits-result returns-3)

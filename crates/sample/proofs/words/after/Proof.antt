@@ -9,25 +9,10 @@ use borrow.Author.Needs.{needs}
 use Rattle.sample.proofs.words.after.Statement.{statement}
 use Rattle.sample.proofs.words.after.Tie as tie
 
-mul-result : tie.Need-mul-result
-mul-result c = search needs
-
-sub-result : tie.Need-sub-result
-sub-result c = search needs
-
-part-result-start : tie.Need-part-result-start
-part-result-start c = search needs
-
-part-result-end : tie.Need-part-result-end
-part-result-end c = search needs
-
 returns : tie.Need-returns
 returns c =
     let s = c .before .before .args in
     take-all (length (now (s .words)) - s .n) (drop (s .n) (now (s .words))) (omega (arith, length-drop (s .n) (now (s .words))))
-
-slice-aggregate-result : tie.Need-slice-aggregate-result
-slice-aggregate-result c = search needs
 
 returns-2 : tie.Need-returns-2
 returns-2 c = let s = c .before .before .args in sym (drop-of-length-le (now (s .words)) (c .before .if1 .left))
@@ -35,11 +20,4 @@ returns-2 c = let s = c .before .before .args in sym (drop-of-length-le (now (s 
 pub after-spec : {M : Type 1} → statement M
 after-spec =
     tie.close
-    (tie.spec
-    mul-result
-    sub-result
-    part-result-start
-    part-result-end
-    returns
-    slice-aggregate-result
-    returns-2)
+    (tie.spec (λ c. search needs) (λ c. search needs) (λ c. search needs) (λ c. search needs) returns (λ c. search needs) returns-2)

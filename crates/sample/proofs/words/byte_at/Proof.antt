@@ -7,12 +7,6 @@ use borrow.Author.Needs.{needs}
 use Rattle.sample.proofs.words.byte_at.Statement.{statement}
 use Rattle.sample.proofs.words.byte_at.Tie as tie
 
-shared-slice-read-result : tie.Need-shared-slice-read-result
-shared-slice-read-result c = search needs
-
-cast-result : tie.Need-cast-result
-cast-result c = omega (arith, c .shared-slice-known .given (c .before .before .args .i))
-
 returns : tie.Need-returns
 returns c = (refl, omega (arith, c .shared-slice-known .given (c .before .before .args .i)))
 
@@ -20,4 +14,6 @@ returns-2 : tie.Need-returns-2
 returns-2 c = (sym (List·getD-eq-default (now (c .before .args .bytes)) 0 (c .if1 .left)), omega arith)
 
 pub byte-at-spec : {M : Type 1} → statement M
-byte-at-spec = tie.close (tie.spec shared-slice-read-result cast-result returns returns-2)
+byte-at-spec =
+    tie.close
+    (tie.spec (λ c. search needs) (λ c. omega (arith, c .shared-slice-known .given (c .before .before .args .i))) returns returns-2)

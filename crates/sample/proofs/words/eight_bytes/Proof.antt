@@ -12,26 +12,11 @@ Inv-loop bytes first number₀ left₀ number left = Reading bytes first number 
 abbrev μ-loop : tie.MeasureT-loop
 μ-loop bytes first number₀ left₀ number left = left
 
-loop-holds : tie.Need-loop-holds Inv-loop μ-loop
-loop-holds c = none-read _ _
-
-sub-left : tie.Need-sub-left Inv-loop μ-loop
-sub-left c = search needs
-
-add-byte-at : tie.Need-add-byte-at Inv-loop μ-loop
-add-byte-at c = search needs
-
-byte-at-requires : tie.Need-byte-at-requires Inv-loop μ-loop
-byte-at-requires c κs = search needs
-
 mul-number : tie.Need-mul-number Inv-loop μ-loop
 mul-number c = omega (arith, room-for-byte (c .before .before .loop .inv) (c .before .loop-test .taken))
 
 add-number : tie.Need-add-number Inv-loop μ-loop
 add-number c = omega (arith, room-for-byte (c .before .before .loop .inv) (c .before .loop-test .taken))
-
-loop-less : tie.Need-loop-less Inv-loop μ-loop
-loop-less c = search needs
 
 loop-again : tie.Need-loop-again Inv-loop μ-loop
 loop-again c =
@@ -41,18 +26,14 @@ loop-again c =
 returns : tie.Need-returns Inv-loop μ-loop
 returns c = all-read (c .before .loop .inv) (omega arith)
 
+-- a line for each statement
 pub eight-bytes-spec : {M : Type 1} → statement M
 eight-bytes-spec =
     tie.close
-    (tie.spec
-    Inv-loop
-    μ-loop
-    loop-holds
-    sub-left
-    add-byte-at
-    byte-at-requires
-    mul-number
-    add-number
-    loop-less
-    loop-again
+    (tie.spec Inv-loop μ-loop
+    (λ c. none-read _ _)
+    (λ c. search needs)
+    (λ c. search needs) (λ c κs. search needs)
+    mul-number add-number
+    (λ c. search needs) loop-again
     returns)

@@ -1,0 +1,12 @@
+-- `write` meets its contract: one float is stored. Assumes nothing.
+use denote.Ref.{now}
+use borrow.Author.Needs.{needs}
+use Rattle.element.specs.StoreLaws.{stored-float}
+use Rattle.element.proofs.real32.write.Statement.{statement}
+use Rattle.element.proofs.real32.write.Tie as tie
+
+returns : tie.Need-returns
+returns c = stored-float (now (c .args .s)) (c .args .at) (c .args .x) (c .pre)
+
+pub write-spec : {M : Type 1} → statement M
+write-spec = tie.close (tie.spec (λ c. search needs) (λ c. search needs) (λ c. search needs) returns)

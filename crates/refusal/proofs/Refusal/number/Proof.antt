@@ -1,0 +1,19 @@
+-- `Refusal::number` meets its contract: each arm is its case of `numberOf`. Assumes nothing.
+use mathlib.Core.Path.{sym, ap}
+use borrow.Author.Needs.{needs}
+use Rattle.refusal.specs.Numbers.{numberOf}
+use Rattle.refusal.proofs.Refusal.number.Statement.{statement}
+use Rattle.refusal.proofs.Refusal.number.Tie as tie
+
+pub number-spec : {M : Type 1} → statement M
+number-spec =
+    tie.close
+    (tie.spec (λ c. search needs) (λ c. search needs) (λ c. search needs) (λ c. search needs) (λ c. search needs) (λ c. search needs)
+    (λ c. search needs)
+    (λ c. sym (ap numberOf (c .enum-told .given .1)))
+    (λ c. sym (ap numberOf (c .enum-told2 .given .1)))
+    (λ c. sym (ap numberOf (c .enum-told3 .given .1)))
+    (λ c. sym (ap numberOf (c .enum-told4 .given .1)))
+    (λ c. sym (ap numberOf (c .enum-told5 .given .1)))
+    (λ c. sym (ap numberOf (c .enum-told6 .given .1)))
+    (λ c. sym (ap numberOf (c .enum-told7 .given .1))))
