@@ -3,7 +3,8 @@ use Prim.Native.Nat.{ℕ, _<_}
 use mathlib.Core.{Path._≡_, Path.sym, Path._∙_, Path.subst, List.List}
 use lib.ListN.{length}
 use lib.Ieee.{Float}
-use Rattle.element.specs.{Element.element, Agree.element-agree, declared.kind.Kind.Kind, Kinds.arithOf}
+use Rattle.rules.specs.{Element.element, Agree.element-agree}
+use Rattle.element.specs.{declared.kind.Kind.Kind, Kinds.arithOf}
 use Rattle.call.specs.Call.{Call, chunk, rowOf, columnOf, Does}
 use Rattle.call.specs.declared.answer.Answer.{Answer}
 use Rattle.call.specs.Verdict.{lengths, Verdict}

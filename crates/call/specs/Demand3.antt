@@ -3,7 +3,8 @@ use Prim.Native.Nat.{ℕ, zero, suc, _≤_, _<_}
 use mathlib.Core.{Path._≡_, Path.refl, Path.sym, Path._∙_, Path.subst, List.List}
 use native.Mathlib.Omega.{arith}
 use lib.{ListN.length, Ieee.Float}
-use Rattle.element.specs.{Pieces.Piece, Pieces.Cuts, GridLaws.grid-cuts, declared.kind.Kind.Kind}
+use Rattle.rules.specs.{Pieces.Piece, Pieces.Cuts, GridLaws.grid-cuts}
+use Rattle.element.specs.declared.kind.Kind.{Kind}
 use Rattle.call.specs.{declared.answer.Answer.Answer, declared.judge.Lengths.Lengths, Call.Call, Call.chunk, Call.Does}
 use Rattle.call.specs.{Verdict.lengths, Verdict.Verdict, Outcome.answerNumber, Outcome.Leaves, Outcome.Outcome}
 use Rattle.call.specs.{Pieces.pieceCall, Pieces.InTurn, Statements.Taken, Statements.CutDemand3, Statements.Demand3}

@@ -4,8 +4,9 @@ use mathlib.Core.{Path._≡_, Path.refl, Logic._⊎_, Logic.inl, Logic.inr, List
 use native.Mathlib.Omega.{arith}
 use lib.{ListN.length, Ieee.Float}
 use Rattle.refusal.specs.Order.{Says}
-use Rattle.element.specs.{Element.Arith, Element.fate, Element.scaled, Element.element, Slice.Updated, Slice.Block}
-use Rattle.element.specs.{SliceLaws.agreeing, SliceLaws.untouched, declared.kind.Kind.Kind, Kinds.arithOf, Kinds.viewOf, Kinds.tilingOf}
+use Rattle.rules.specs.{Element.Arith, Element.fate, Element.scaled, Element.element, Slice.Updated, Slice.Block}
+use Rattle.rules.specs.SliceLaws.{agreeing, untouched}
+use Rattle.element.specs.{declared.kind.Kind.Kind, Kinds.arithOf, Kinds.viewOf, Kinds.tilingOf}
 use Rattle.layout.specs.{Place.indexOf, Need.needOf}
 use Rattle.call.specs.{declared.answer.Answer.Answer, Call.Call, Call.chunk, Call.rowOf, Call.columnOf, Call.Does}
 use Rattle.call.specs.Verdict.{lengths, Verdict}

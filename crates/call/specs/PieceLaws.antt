@@ -5,10 +5,11 @@ use mathlib.Core.{Path._≡_, Path.refl, Path.transport, Logic.inr, List.List}
 use native.Mathlib.Omega.{arith}
 use lib.{ListN.length, Ieee.Float}
 use Rattle.refusal.specs.Order.{done}
-use Rattle.element.specs.{Element.multiplier, Element.element, Slice.Updated, Slice.Block, ViewLaws.lawful}
-use Rattle.element.specs.{Pieces.Piece, Pieces.Fits, Pieces.Cuts, Pieces.HasPlace, PieceLaws.cuts-proper, PieceLaws.cuts-divides}
-use Rattle.element.specs.SliceLaws.{region?, moved, unique, placed?}
-use Rattle.element.specs.CuttingTheorem.{portionRule, wholeRule, cut}
+use Rattle.rules.specs.{Element.multiplier, Element.element, Slice.Updated, Slice.Block}
+use Rattle.rules.specs.{Pieces.Piece, Pieces.Fits, Pieces.Cuts, Pieces.HasPlace, PieceLaws.cuts-proper, PieceLaws.cuts-divides}
+use Rattle.rules.specs.SliceLaws.{region?, moved, unique, placed?}
+use Rattle.rules.specs.CuttingTheorem.{portionRule, wholeRule, cut}
+use Rattle.element.specs.KindLaws.{lawful}
 use Rattle.element.specs.{declared.kind.Kind.Kind, Kinds.arithOf, Kinds.viewOf, Kinds.tilingOf, Kinds.depthChunk}
 use Rattle.layout.specs.{declared.operand.Operand.Operand, Place.indexOf, Place.basedAt, NeedLaws.need-mono, NeedLaws.kind-sides}
 use Rattle.layout.specs.Tests.{outside-or-inside, meet-or-apart, none-large}

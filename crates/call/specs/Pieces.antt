@@ -2,7 +2,8 @@
 use Prim.Native.Nat.{ℕ, suc, _<_}
 use mathlib.Core.{Path._≡_, List.List}
 use lib.Ieee.{Float}
-use Rattle.element.specs.{Element.multiplier, Pieces.Piece, declared.kind.Kind.Kind, Kinds.arithOf}
+use Rattle.rules.specs.{Element.multiplier, Pieces.Piece}
+use Rattle.element.specs.{declared.kind.Kind.Kind, Kinds.arithOf}
 use Rattle.layout.specs.Place.{basedAt}
 use Rattle.call.specs.declared.judge.Matrices.{Matrices}
 use Rattle.call.specs.{Call.Call, Call.Does, Verdict.lengths, Verdict.Verdict, Outcome.Leaves}

@@ -4,8 +4,8 @@ use mathlib.Core.Path.{_≡_}
 use mathlib.Core.List.{List}
 use lib.Ieee.{Float}
 use Rattle.refusal.specs.Order.{Says}
-use Rattle.element.specs.Grid.{Grid, gridPiece}
-use Rattle.element.specs.Pieces.{Piece, Cuts}
+use Rattle.rules.specs.Grid.{Grid, gridPiece}
+use Rattle.rules.specs.Pieces.{Piece, Cuts}
 use Rattle.element.specs.declared.kind.Kind.{Kind}
 use Rattle.element.specs.Kinds.{arithOf, tilingOf}
 use Rattle.layout.specs.Place.{elementAt}

@@ -3,8 +3,8 @@ use Prim.Native.Nat.{ℕ, _+_, _*_}
 use mathlib.Core.List.{List}
 use lib.ListN.{getD}
 use lib.Ieee.{Float, nan}
-use Rattle.element.specs.Element.{Complex}
-use Rattle.element.specs.Lists.{tab}
+use Rattle.rules.specs.Element.{Complex}
+use Rattle.rules.specs.Lists.{tab}
 use Rattle.element.specs.Complex32.{tiling, held}
 use Rattle.element.specs.declared.complex32.Complex32.{Complex32}
 use Rattle.loops.specs.Tiles.{at}

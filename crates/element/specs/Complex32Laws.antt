@@ -1,7 +1,7 @@
 -- The code's complex number and its choice for old C stand for the definition's and lose nothing on the way, for complex f32.
 -- Assumes nothing.
 use mathlib.Core.Path.{_≡_, refl, sym, ap, _∙_}
-use Rattle.element.specs.Element.{Fate, overwrite, times, Complex}
+use Rattle.rules.specs.Element.{Fate, overwrite, times, Complex}
 use Rattle.element.specs.Complex32.{number, fateOf}
 use Rattle.element.specs.declared.complex32.Complex32.{Complex32}
 use Rattle.element.specs.declared.complex32.Fate as code

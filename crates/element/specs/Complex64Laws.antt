@@ -2,7 +2,7 @@
 -- The code's complex number and its choice for old C stand for the definition's and lose nothing on the way, for complex f64.
 -- Assumes nothing.
 use mathlib.Core.Path.{_≡_, refl, sym, ap, _∙_}
-use Rattle.element.specs.Element.{Fate, overwrite, times, Complex}
+use Rattle.rules.specs.Element.{Fate, overwrite, times, Complex}
 use Rattle.element.specs.Complex64.{number, fateOf}
 use Rattle.element.specs.declared.complex64.Complex64.{Complex64}
 use Rattle.element.specs.declared.complex64.Fate as code

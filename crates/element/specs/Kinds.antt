@@ -1,7 +1,7 @@
 -- The four kinds: arithmetic, how elements lie in a slice, chunks and tiles; and the depth chunk. Definitions only.
 use Prim.Native.Nat.{ℕ}
 use lib.Ieee.{binary32, binary64}
-use Rattle.element.specs.{Element.Arith, Element.real, Element.complex, Slice.View, Slice.realView, Slice.complexView}
+use Rattle.rules.specs.{Element.Arith, Element.real, Element.complex, Slice.View, Slice.realView, Slice.complexView}
 use Rattle.element.specs.declared.kind.{Kind.Kind, Tiling.Tiling}
 use Rattle.element.specs.declared.kind.Kind.the-variants.{F32, F64, C32, C64}
 

@@ -21,15 +21,20 @@ fn one(name: &[u8], k: usize, alpha: f32, a: &[f32], b: &[f32], beta: f32, old: 
     show::text(b"\n");
 }
 
+// The same where A and B are one number each.
+fn of_numbers(name: &[u8], k: usize, alpha: f32, a: f32, b: f32, beta: f32, old: f32) {
+    one(name, k, alpha, &[a], &[b], beta, old);
+}
+
 pub fn all() {
     let nan: f32 = 0.0 / 0.0;
     let inf: f32 = 1.0 / 0.0;
     let ones = [1.0f32; 258];
-    one(b"P1", 1, 2.0, &[3.0f32], &[5.0f32], 0.0, nan);
-    one(b"P2", 1, 2.0, &[3.0f32], &[5.0f32], -0.0, inf);
-    one(b"P3", 1, 2.0, &[3.0f32], &[5.0f32], 1.0, 1.0);
-    one(b"P4", 0, 1.0, &[3.0f32], &[5.0f32], 0.0, nan);
-    one(b"P5", 0, 1.0, &[3.0f32], &[5.0f32], 2.0, 3.0);
+    of_numbers(b"P1", 1, 2.0, 3.0, 5.0, 0.0, nan);
+    of_numbers(b"P2", 1, 2.0, 3.0, 5.0, -0.0, inf);
+    of_numbers(b"P3", 1, 2.0, 3.0, 5.0, 1.0, 1.0);
+    of_numbers(b"P4", 0, 1.0, 3.0, 5.0, 0.0, nan);
+    of_numbers(b"P5", 0, 1.0, 3.0, 5.0, 2.0, 3.0);
     one(b"P6", 3, 1.0, &[16777216.0f32, 1.0, 1.0], &ones, 0.0, nan);
     let mut a = [0.0f32; 258];
     a[0] = 16777216.0;
@@ -38,5 +43,5 @@ pub fn all() {
     one(b"P7", 258, 1.0, &a, &ones, 0.0, nan);
     a[255] = 1.0;
     one(b"P8", 257, 1.0, &a, &ones, 0.0, nan);
-    one(b"P10", 1, 0.0, &[inf], &[1.0f32], 0.0, 1.0);
+    of_numbers(b"P10", 1, 0.0, inf, 1.0, 0.0, 1.0);
 }

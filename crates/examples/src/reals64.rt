@@ -21,15 +21,20 @@ fn one(name: &[u8], k: usize, alpha: f64, a: &[f64], b: &[f64], beta: f64, old: 
     show::text(b"\n");
 }
 
+// The same where A and B are one number each.
+fn of_numbers(name: &[u8], k: usize, alpha: f64, a: f64, b: f64, beta: f64, old: f64) {
+    one(name, k, alpha, &[a], &[b], beta, old);
+}
+
 pub fn all() {
     let nan: f64 = 0.0 / 0.0;
     let inf: f64 = 1.0 / 0.0;
     let ones = [1.0f64; 257];
-    one(b"P1", 1, 2.0, &[3.0f64], &[5.0f64], 0.0, nan);
-    one(b"P2", 1, 2.0, &[3.0f64], &[5.0f64], -0.0, inf);
-    one(b"P3", 1, 2.0, &[3.0f64], &[5.0f64], 1.0, 1.0);
-    one(b"P4", 0, 1.0, &[3.0f64], &[5.0f64], 0.0, nan);
-    one(b"P5", 0, 1.0, &[3.0f64], &[5.0f64], 2.0, 3.0);
+    of_numbers(b"P1", 1, 2.0, 3.0, 5.0, 0.0, nan);
+    of_numbers(b"P2", 1, 2.0, 3.0, 5.0, -0.0, inf);
+    of_numbers(b"P3", 1, 2.0, 3.0, 5.0, 1.0, 1.0);
+    of_numbers(b"P4", 0, 1.0, 3.0, 5.0, 0.0, nan);
+    of_numbers(b"P5", 0, 1.0, 3.0, 5.0, 2.0, 3.0);
     one(b"P9", 257, 1.0, &ones, &ones, 2.0, 3.0);
-    one(b"P10", 1, 0.0, &[inf], &[1.0f64], 0.0, 1.0);
+    of_numbers(b"P10", 1, 0.0, inf, 1.0, 0.0, 1.0);
 }

@@ -6,10 +6,10 @@ use native.Mathlib.Nat.{zero-add, add-mul}
 use native.Mathlib.Omega.{arith}
 use lib.IntN.{pos, negsuc, natAbs}
 use lib.Ieee.{Float}
-use Rattle.element.specs.Slice.{View, Updated, Block, Region}
-use Rattle.element.specs.Stores.{Apart}
-use Rattle.element.specs.SliceLaws.{agreeing, moved, elsewhere, rows, columns}
-use Rattle.element.specs.ViewLaws.{Lawful}
+use Rattle.rules.specs.Slice.{View, Updated, Block, Region}
+use Rattle.rules.specs.Stores.{Apart}
+use Rattle.rules.specs.SliceLaws.{agreeing, moved, elsewhere, rows, columns}
+use Rattle.rules.specs.ViewLaws.{Lawful}
 use Rattle.layout.specs.declared.operand.Operand.{Operand}
 use Rattle.layout.specs.Place.{placeOf, Outside, SomeOutside, TwoMeet, indexOf, basedAt}
 use Rattle.layout.specs.Operands.{transposed, Inside, AllInside, NoneMeet, Modest, Reachable, Readable, Writable}

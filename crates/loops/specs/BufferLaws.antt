@@ -8,9 +8,9 @@ use native.Mathlib.Omega.{arith}
 use lib.ListN.{length, getD, drop}
 use lib.Seq.{getD-drop}
 use lib.Ieee.{Float, nan}
-use Rattle.element.specs.Element.{chunks}
-use Rattle.element.specs.Lists.{splice}
-use Rattle.element.specs.ListLaws.{length-splice, getD-in, getD-after}
+use Rattle.rules.specs.Element.{chunks}
+use Rattle.rules.specs.Lists.{splice}
+use Rattle.rules.specs.ListLaws.{length-splice, getD-in, getD-after}
 use Rattle.element.specs.Kinds.{arithOf, tilingOf}
 use Rattle.element.specs.declared.kind.Kind.{Kind}
 use Rattle.loops.specs.Panels.{packingOf, padded, packed, unpacked}

@@ -6,9 +6,9 @@ use native.Mathlib.Nat.{zero-add, mul-one, mul-add, add-mul, mul-assoc, mul-left
 use native.Mathlib.Omega.{arith}
 use lib.ListN.{length, getD}
 use lib.Ieee.{Float, nan}
-use Rattle.element.specs.Element.{chunks, chunkLength, after}
-use Rattle.element.specs.Slice.{View, realView, complexView}
-use Rattle.element.specs.ViewLaws.{lawful}
+use Rattle.rules.specs.Element.{chunks, chunkLength, after}
+use Rattle.rules.specs.Slice.{View, realView, complexView}
+use Rattle.element.specs.KindLaws.{lawful}
 use Rattle.element.specs.Kinds.{arithOf, viewOf, tilingOf}
 use Rattle.element.specs.declared.kind.Kind.{Kind}
 use Rattle.element.specs.declared.kind.Kind.the-variants.{F32, F64, C32, C64}

@@ -10,13 +10,13 @@ use borrow.Rule.Slice.PartMut.{midOf, putMid}
 use lib.IntN.{natAbs}
 use lib.Seq.{getD-drop}
 use lib.Ieee.{Float, nan}
-use Rattle.element.specs.Element.{Fate, fate, put, chunkSum, multiplier, chunks, chunkLength, after, element}
-use Rattle.element.specs.Agree.{chunkSum-agree}
-use Rattle.element.specs.DepthLaws.{gathered, element-gathered}
-use Rattle.element.specs.Lists.{splice}
-use Rattle.element.specs.ListLaws.{lent-from}
-use Rattle.element.specs.Slice.{Updated}
-use Rattle.element.specs.SliceLaws.{then, agreeing}
+use Rattle.rules.specs.Element.{Fate, fate, put, chunkSum, multiplier, chunks, chunkLength, after, element}
+use Rattle.rules.specs.Agree.{chunkSum-agree}
+use Rattle.rules.specs.DepthLaws.{gathered, element-gathered}
+use Rattle.rules.specs.Lists.{splice}
+use Rattle.rules.specs.ListLaws.{lent-from}
+use Rattle.rules.specs.Slice.{Updated}
+use Rattle.rules.specs.SliceLaws.{then, agreeing}
 use Rattle.element.specs.Kinds.{arithOf, viewOf, tilingOf}
 use Rattle.element.specs.declared.kind.Kind.{Kind}
 use Rattle.layout.specs.declared.operand.Operand.{Operand}

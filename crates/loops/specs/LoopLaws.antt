@@ -7,11 +7,11 @@ use native.Mathlib.Nat.{mul-le-mul-right, zero-mul}
 use native.Mathlib.Omega.{arith}
 use lib.ListN.{length, drop, take}
 use lib.Ieee.{Float}
-use Rattle.element.specs.Element.{Arith, Fate, put, chunks, chunkLength}
-use Rattle.element.specs.Agree.{chunkSum-agree}
-use Rattle.element.specs.Slice.{View, Updated, Block}
-use Rattle.element.specs.SliceLaws.{untouched}
-use Rattle.element.specs.ViewLaws.{Lawful}
+use Rattle.rules.specs.Element.{Arith, Fate, put, chunks, chunkLength}
+use Rattle.rules.specs.Agree.{chunkSum-agree}
+use Rattle.rules.specs.Slice.{View, Updated, Block}
+use Rattle.rules.specs.SliceLaws.{untouched}
+use Rattle.rules.specs.ViewLaws.{Lawful}
 use Rattle.layout.specs.declared.operand.Operand.{Operand}
 use Rattle.layout.specs.Place.{indexOf, basedAt}
 use Rattle.layout.specs.Operands.{Writable}

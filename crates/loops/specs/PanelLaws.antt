@@ -9,16 +9,18 @@ use native.Mathlib.Omega.{arith}
 use lib.ListN.{length, getD, take, drop, set, length-append, length-drop, List·getD-append}
 use lib.Seq.{getD-drop, getD-append-add, take-all}
 use lib.Ieee.{Float, nan}
-use Rattle.element.specs.Element.{Arith, Complex, chunks}
-use Rattle.element.specs.Held.{Held}
+use Rattle.rules.specs.Element.{Arith, Complex, chunks}
+use Rattle.rules.specs.Held.{Held}
+use Rattle.rules.specs.Lists.{cat, splice}
+use Rattle.rules.specs.ListLaws.{length-cat, length-splice, getD-cat, cat-none, cat-more, set-splice, splice-splice, cat-ext, getD-tab}
+use Rattle.rules.specs.ListLaws.{tab-ext}
 use Rattle.element.specs.declared.kind.Kind.{Kind}
 use Rattle.element.specs.declared.kind.Kind.the-variants.{F32, F64, C32, C64}
-use Rattle.element.specs.Lists.{cat, splice}
-use Rattle.element.specs.ListLaws.{length-cat, length-splice, getD-cat, cat-none, cat-more, set-splice, splice-splice, cat-ext, getD-tab}
-use Rattle.element.specs.ListLaws.{tab-ext}
 use Rattle.loops.specs.Panels.{Packing, singles, realPacking, complexPacking, packingOf, padded, packedPanel, packed, unpacked}
-use Rattle.loops.specs.Tiles.{upTo, at, line, Filled}
-use Rattle.loops.specs.TileLaws.{upTo-in, upTo-past, filled-more, filled-rest}
+use Rattle.rules.specs.Lists.{Filled}
+use Rattle.loops.specs.Tiles.{upTo, at, line}
+use Rattle.rules.specs.ListLaws.{filled-more, filled-rest}
+use Rattle.loops.specs.TileLaws.{upTo-in, upTo-past}
 
 -- the next w fit where all of n times w do
 pub next-fits : (w : ℕ) {q n : ℕ} → q < n → q * w + w ≤ n * w

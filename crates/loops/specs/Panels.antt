@@ -3,8 +3,8 @@ use Prim.Native.Nat.{ℕ, zero, suc, _+_, _*_, _/_, _%_}
 use mathlib.Core.List.{List, [], _∷_, _++_}
 use lib.ListN.{drop, getD}
 use lib.Ieee.{Float, nan}
-use Rattle.element.specs.Element.{Arith, Complex}
-use Rattle.element.specs.Lists.{cat}
+use Rattle.rules.specs.Element.{Arith, Complex}
+use Rattle.rules.specs.Lists.{cat}
 use Rattle.element.specs.Kinds.{arithOf}
 use Rattle.element.specs.declared.kind.Kind.{Kind}
 use Rattle.element.specs.declared.kind.Kind.the-variants.{F32, F64, C32, C64}

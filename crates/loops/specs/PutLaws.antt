@@ -4,9 +4,9 @@ use mathlib.Core.Path.{_≡_}
 use mathlib.Core.List.{List}
 use native.Mathlib.Omega.{arith}
 use lib.Ieee.{Float}
-use Rattle.element.specs.Slice.{View, Updated, Block, Region}
-use Rattle.element.specs.SliceLaws.{across, down, rows, columns}
-use Rattle.element.specs.ViewLaws.{Lawful}
+use Rattle.rules.specs.Slice.{View, Updated, Block, Region}
+use Rattle.rules.specs.SliceLaws.{across, down, rows, columns}
+use Rattle.rules.specs.ViewLaws.{Lawful}
 use Rattle.layout.specs.declared.operand.Operand.{Operand}
 use Rattle.layout.specs.Place.{indexOf}
 use Rattle.layout.specs.Operands.{Writable}

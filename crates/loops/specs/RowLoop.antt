@@ -7,9 +7,9 @@ use native.Mathlib.Omega.{arith}
 use lib.ListN.{length, getD, take, drop}
 use lib.Seq.{getD-take, length-take-le}
 use lib.Ieee.{Float, nan}
-use Rattle.element.specs.Element.{Fate, chunks, chunkLength}
-use Rattle.element.specs.Slice.{Updated, Block}
-use Rattle.element.specs.ViewLaws.{lawful}
+use Rattle.rules.specs.Element.{Fate, chunks, chunkLength}
+use Rattle.rules.specs.Slice.{Updated, Block}
+use Rattle.element.specs.KindLaws.{lawful}
 use Rattle.element.specs.Kinds.{arithOf, viewOf, tilingOf}
 use Rattle.element.specs.declared.kind.Kind.{Kind}
 use Rattle.layout.specs.declared.operand.Operand.{Operand}

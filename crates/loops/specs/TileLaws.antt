@@ -1,20 +1,15 @@
--- Laws of tables, of lines, of columns that are summed, and of arrays filled in order, for every kind and every tile size. Assumes nothing.
+-- Laws of lines and of columns that are summed, for every kind and every tile size. Assumes nothing.
 use Prim.Native.Nat.{ℕ, _+_, _<_, _≤_}
-use mathlib.Core.Path.{_≡_, refl, sym, ap, _∙_}
+use mathlib.Core.Path.{_≡_, sym, ap, _∙_}
 use mathlib.Core.List.{List, []}
-use native.Mathlib.Nat.{not-suc-le-zero, zero-add}
-use native.Mathlib.Decide.{decLt}
-use native.Mathlib.Omega.{arith}
+use native.Mathlib.Nat.{zero-add}
 use native.Mathlib.Numerals.{add-one}
-use lib.ListN.{length, getD, set, length-set}
-use lib.Seq.{ext-getD, getD-set-same, getD-set-other}
-use borrow.Author.Count.{below-more}
 use borrow.Author.Tests.{lt-ltb, le-ltb}
-use Rattle.element.specs.Element.{Arith, chunkSum}
-use Rattle.element.specs.Held.{Held}
-use Rattle.element.specs.Lists.{tab}
-use Rattle.element.specs.ListLaws.{getD-tab, length-tab, tab-ext}
-use Rattle.loops.specs.Tiles.{upTo, at, line, lines, cell, columns, stepped, summed, Filled}
+use Rattle.rules.specs.Element.{Arith, chunkSum}
+use Rattle.rules.specs.Held.{Held}
+use Rattle.rules.specs.Lists.{tab}
+use Rattle.rules.specs.ListLaws.{getD-tab, tab-ext}
+use Rattle.loops.specs.Tiles.{upTo, at, line, lines, cell, columns, stepped, summed}
 use Rattle.loops.specs.Panels.{padded}
 use Rattle.loops.specs.Work.{part}
 
@@ -60,32 +55,3 @@ module _ {N : Type 0} (ar : Arith) (held : Held (ar .E) N) (h w : ℕ) (a b : �
   unfolding summed
   summed-part kc n alpha e i j l m =
       ap (λ (z : ar .E). upTo ar n (λ i. ar .mul alpha z) i) (lines-at held w h (λ j i. chunkSum ar (a i) (b j) 0 kc) j i m l e)
-
--- ---- an array that a loop fills in order
-
-module _ {A : Type 0} (z : A) (n : ℕ) (g : ℕ → A) (old : List A) where
-  pub filled-none : length old ≡ n → Filled z n 0 g old old
-  filled-none e = record { long = e; upto = omega arith; made = λ k l. absurd (not-suc-le-zero l); left = λ k l. refl }
-
-  pub filled-more : (i : ℕ) {l : List A} {v : A} → Filled z n i g old l → i < n → v ≡ g i → Filled z n (i + 1) g old (set l i v)
-  filled-more i {l} {v} f h e = record {
-    long = length-set l i v ∙ f .long;
-    upto = omega arith;
-    made = below-more (λ (k : ℕ). getD (set l i v) k z ≡ g k) i
-        (λ k m. getD-set-other l i k v z (λ u. omega arith) ∙ f .made k m)
-        (getD-set-same l i v z (omega (arith, f .long)) ∙ e);
-    left = λ k m. getD-set-other l i k v z (λ u. omega arith) ∙ f .left k (omega arith);
-  }
-
-  -- what the loop leaves is as it should be already
-  pub filled-rest : (i : ℕ) {l : List A} → Filled z n i g old l → ((k : ℕ) → i ≤ k → k < n → getD old k z ≡ g k) → l ≡ tab n g
-  filled-rest i {l} f r =
-      ext-getD z l (tab n g) (f .long ∙ sym (length-tab n g))
-      (λ k m. let h : k < n = omega (arith, f .long) in at-k k h (decLt k i) ∙ sym (getD-tab n g k z h))
-    where
-      at-k : (k : ℕ) → k < n → Dec (k < i) → getD l k z ≡ g k
-      at-k k h (yes m) = f .made k m
-      at-k k h (no m) = f .left k (omega arith) ∙ r k (omega arith) h
-
-  pub filled-all : (i : ℕ) {l : List A} → Filled z n i g old l → n ≤ i → l ≡ tab n g
-  filled-all i f h = filled-rest i f (λ k u v. let o : ⊥ = omega arith in absurd o)

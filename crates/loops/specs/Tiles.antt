@@ -1,13 +1,12 @@
--- Lines of numbers as the code holds them, a tile while it is summed, and arrays that a loop fills. Definitions only.
-use Prim.Native.Nat.{ℕ, _≤_, _<_}
-use mathlib.Core.Path.{_≡_}
+-- Lines of numbers as the code holds them, and a tile while it is summed. Definitions only.
+use Prim.Native.Nat.{ℕ}
 use mathlib.Core.List.{List, []}
 use mathlib.Core.Bool.{cond}
 use lib.Dec.{ltb}
-use lib.ListN.{length, getD}
-use Rattle.element.specs.Element.{Arith, chunkSum}
-use Rattle.element.specs.Held.{Held}
-use Rattle.element.specs.Lists.{tab}
+use lib.ListN.{getD}
+use Rattle.rules.specs.Element.{Arith, chunkSum}
+use Rattle.rules.specs.Held.{Held}
+use Rattle.rules.specs.Lists.{tab}
 
 -- g below n, and +0 from n on
 abbrev pub upTo : (ar : Arith) → ℕ → (ℕ → ar .E) → ℕ → ar .E
@@ -40,10 +39,3 @@ module _ {N : Type 0} (ar : Arith) (held : Held (ar .E) N) (h w : ℕ) where
   unfoldable pub summed : (ℕ → ℕ → ar .E) → (ℕ → ℕ → ar .E) → ℕ → List (List N)
   unfolding chunkSum
   summed a b n = columns (λ i j. chunkSum ar (a i) (b j) 0 n)
-
--- An array of n that a loop fills in order: below i element k is g k, from i on what it was at first.
-pub record Filled {A : Type 0} (z : A) (n i : ℕ) (g : ℕ → A) (old l : List A) : Type 0 where
-  pub long : length l ≡ n
-  pub upto : i ≤ n
-  pub made : (k : ℕ) → k < i → getD l k z ≡ g k
-  pub left : (k : ℕ) → i ≤ k → getD l k z ≡ getD old k z

@@ -6,7 +6,7 @@ use Prim.Native.Nat.{ℕ, min, _+_, _*_, _<_, _≤_}
 use native.Mathlib.Omega.{arith}
 use lib.ListN.{length}
 use lib.Ieee.{Float}
-use Rattle.element.specs.Element.{chunks, chunkLength}
+use Rattle.rules.specs.Element.{chunks, chunkLength}
 use Rattle.layout.specs.declared.operand.Operand.{Operand}
 use Rattle.layout.specs.Place.{basedAt}
 use Rattle.layout.specs.Operands.{Reachable, Readable, Writable}

@@ -5,9 +5,9 @@ use mathlib.Core.Path.{_≡_}
 use mathlib.Core.List.{List}
 use lib.ListN.{length, getD, take, drop}
 use lib.Ieee.{Float, nan}
-use Rattle.element.specs.Element.{Arith, Fate, put, chunkSum, chunks, after}
-use Rattle.element.specs.Slice.{Updated, Block}
-use Rattle.element.specs.Lists.{splice}
+use Rattle.rules.specs.Element.{Arith, Fate, put, chunkSum, chunks, after}
+use Rattle.rules.specs.Slice.{Updated, Block}
+use Rattle.rules.specs.Lists.{splice}
 use Rattle.element.specs.Kinds.{arithOf, viewOf, tilingOf}
 use Rattle.element.specs.declared.kind.Kind.{Kind}
 use Rattle.layout.specs.declared.operand.Operand.{Operand}

@@ -11,9 +11,9 @@ use replayed::reals64;
 use sample::calls::Comparison;
 use sample::calls::KIND;
 use sample::calls::first_call;
-use sample::words::after;
-use sample::words::from_bytes;
-use sample::words::word_at;
+use words::after;
+use words::from_bytes;
+use words::word_at;
 
 // How many calls the words hold, or the number of the one that is cut short or malformed.
 enum Contents {

@@ -12,6 +12,7 @@ use lib.Seq.{length-take-le}
 use Rattle.element.specs.Kinds.{arithOf}
 use Rattle.element.specs.declared.kind.Kind.{Kind}
 use Rattle.element.specs.declared.kind.Kind.the-variants.{F32, F64, C32, C64}
+use Rattle.floats.specs.Floats.{floatsOf, FirstDifference}
 use Rattle.call.specs.declared.answer.Answer.{Answer}
 use Rattle.call.specs.declared.judge.Lengths.{Lengths}
 use Rattle.call.specs.declared.judge.Matrices.{Matrices}
@@ -20,7 +21,6 @@ use Rattle.call.specs.Verdict.{lengths}
 use Rattle.call.specs.Outcome.{answerNumber, Outcome}
 use Rattle.sample.specs.declared.calls.Comparison.{Comparison}
 use Rattle.sample.specs.Calls.{matricesOf}
-use Rattle.sample.specs.Floats.{floatsOf, FirstDifference}
 use Rattle.replayed.specs.Replayed.{formatOf, kind32, kind64, scalarAt, recorded, wordsA, wordsB, wordsC, Ran, Compared, Replayed}
 
 -- ---- one width, both of its kinds

@@ -9,13 +9,13 @@ use lib.ListN.{length, getD, drop}
 use Rattle.element.specs.Kinds.{arithOf}
 use Rattle.element.specs.declared.kind.Kind.{Kind}
 use Rattle.element.specs.declared.kind.Kind.the-variants.{F32, F64, C32, C64}
+use Rattle.floats.specs.Floats.{floatOf, floatsOf, complexOf, FirstDifference}
 use Rattle.call.specs.declared.answer.Answer.{Answer}
 use Rattle.call.specs.declared.judge.Lengths.{Lengths}
 use Rattle.call.specs.Call.{Call}
 use Rattle.call.specs.Outcome.{answerNumber, Outcome}
 use Rattle.sample.specs.declared.calls.Comparison.{Comparison}
 use Rattle.sample.specs.Calls.{matricesOf, lengthAt}
-use Rattle.sample.specs.Floats.{floatOf, floatsOf, complexOf, FirstDifference}
 
 -- a call's kind by its number: even numbers are over f32 and odd ones over f64, 0 and 1 real and the others complex
 abbrev pub kind32 : ℕ → Kind

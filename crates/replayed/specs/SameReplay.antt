@@ -5,6 +5,7 @@ use mathlib.Core.List.{List}
 use lib.Ieee.{Float, Format}
 use lib.ListN.{length}
 use Rattle.element.specs.declared.kind.Kind.{Kind}
+use Rattle.floats.specs.SameDifference.{first-difference-same}
 use Rattle.call.specs.declared.answer.Answer.{Answer}
 use Rattle.call.specs.declared.judge.Lengths.{Lengths}
 use Rattle.call.specs.Call.{Call, Does}
@@ -13,7 +14,6 @@ use Rattle.call.specs.Outcome.{answerNumber, Leaves, Outcome}
 use Rattle.call.specs.OneOutcome.{one-left, verdict-one}
 use Rattle.call.specs.PieceLaws.{does-same}
 use Rattle.sample.specs.declared.calls.Comparison.{Comparison}
-use Rattle.sample.specs.SameDifference.{first-difference-same}
 use Rattle.replayed.specs.Replayed.{formatOf, recorded, Compared, Replayed}
 
 -- the number and the end of C's slice do not depend on what the pack buffer held

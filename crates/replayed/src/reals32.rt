@@ -5,6 +5,9 @@ ghost use Rattle.call.specs.Verdict.{lengths};
 ghost use Rattle.replayed.specs.Replayed.{kind32, lengthsOf, packOf, Ran, Compared, Replayed};
 use call::answer::Answer;
 use cgemm::gemm::cgemm;
+use floats::floats32::complex_of;
+use floats::floats32::fill;
+use floats::floats32::first_difference;
 use sample::calls::A_LENGTH;
 use sample::calls::ALPHA;
 use sample::calls::B_LENGTH;
@@ -16,12 +19,9 @@ use sample::calls::KIND;
 use sample::calls::PACK_LENGTH;
 use sample::calls::length_at;
 use sample::calls::matrices_of;
-use sample::floats32::complex_of;
-use sample::floats32::fill;
-use sample::floats32::first_difference;
-use sample::words::after;
-use sample::words::word_at;
 use sgemm::gemm::sgemm;
+use words::after;
+use words::word_at;
 
 // Our answer to a call.
 fn answer(call: &[u64], a: &[f32], b: &[f32], c: &mut [f32], pack: &mut [f32]) -> Answer

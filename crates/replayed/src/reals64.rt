@@ -6,6 +6,9 @@ ghost use Rattle.call.specs.Verdict.{lengths};
 ghost use Rattle.replayed.specs.Replayed.{kind64, lengthsOf, packOf, Ran, Compared, Replayed};
 use call::answer::Answer;
 use dgemm::gemm::dgemm;
+use floats::floats64::complex_of;
+use floats::floats64::fill;
+use floats::floats64::first_difference;
 use sample::calls::A_LENGTH;
 use sample::calls::ALPHA;
 use sample::calls::B_LENGTH;
@@ -17,11 +20,8 @@ use sample::calls::KIND;
 use sample::calls::PACK_LENGTH;
 use sample::calls::length_at;
 use sample::calls::matrices_of;
-use sample::floats64::complex_of;
-use sample::floats64::fill;
-use sample::floats64::first_difference;
-use sample::words::after;
-use sample::words::word_at;
+use words::after;
+use words::word_at;
 use zgemm::gemm::zgemm;
 
 // Our answer to a call.

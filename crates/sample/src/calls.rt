@@ -4,11 +4,11 @@ ghost use Prim.Native.Nat.{_≤_};
 ghost use Rattle.refusal.specs.Order.{First};
 ghost use Rattle.layout.specs.Operands.{Tells};
 ghost use Rattle.sample.specs.Calls.{operandAt, matricesOf, lengthAt, sizeOf, Short, Patterns, HoldsFloats, IsCall};
-use crate::words::after;
-use crate::words::signed;
-use crate::words::word_at;
 use call::judge::Matrices;
 use layout::operand::Operand;
+use words::after;
+use words::signed;
+use words::word_at;
 
 // Where each number stands.
 pub const KIND: usize = 0;

@@ -3,7 +3,6 @@ ghost use Rattle.element.specs.declared.kind.Kind.the-variants.{F32};
 ghost use Rattle.element.specs.Real32.{number};
 ghost use Rattle.call.specs.Call.{callOf};
 ghost use Rattle.call.specs.Outcome.{Outcome};
-use crate::outer::gemm_loop;
 use crate::scale::c_to_beta_c;
 use call::answer::Answer;
 use call::judge::Lengths;
@@ -13,6 +12,7 @@ use element::real32::Fate;
 use element::real32::Number;
 use element::real32::Real32;
 use layout::operand::Operand;
+use sgemm_loops::outer::gemm_loop;
 
 // C becomes alpha A B + beta C: A is m by k, B is k by n, C is m by n, each where its operand says in its slice, an element as
 // Real32::FLOATS neighbouring floats. Done, or a refusal that leaves C and pack as they were. Done, pack holds anything in its first

@@ -1,5 +1,3 @@
 // sgemm: C becomes alpha A B + beta C, in the kind Real32.
 pub mod gemm;
-mod outer;
-mod packed;
 mod scale;

@@ -4,7 +4,6 @@ ghost use Rattle.element.specs.declared.kind.Kind.the-variants.{C64};
 ghost use Rattle.element.specs.Complex64.{number};
 ghost use Rattle.call.specs.Call.{callOf};
 ghost use Rattle.call.specs.Outcome.{Outcome};
-use crate::outer::gemm_loop;
 use crate::scale::c_to_beta_c;
 use call::answer::Answer;
 use call::judge::Lengths;
@@ -14,6 +13,7 @@ use element::complex64::Fate;
 use element::complex64::Number;
 use element::kind::Kind;
 use layout::operand::Operand;
+use zgemm_loops::outer::gemm_loop;
 
 // C becomes alpha A B + beta C: A is m by k, B is k by n, C is m by n, each where its operand says in its slice, an element as
 // Complex64::FLOATS neighbouring floats. Done, or a refusal that leaves C and pack as they were. Done, pack holds anything in its first

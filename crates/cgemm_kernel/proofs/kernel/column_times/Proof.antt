@@ -2,11 +2,12 @@
 use Prim.Native.Nat.{ℕ, _-_, _≤_}
 use mathlib.Core.Path.{refl, ap, _∙_}
 use native.Mathlib.Omega.{arith}
-use Rattle.element.specs.Element.{Complex}
+use Rattle.rules.specs.Element.{Complex}
+use Rattle.rules.specs.Lists.{Filled}
+use Rattle.rules.specs.ListLaws.{filled-none}
 use Rattle.element.specs.declared.complex32.Complex32.{Complex32}
 use Rattle.element.specs.Complex32.{arith as ar, tiling, number, held}
-use Rattle.loops.specs.Tiles.{upTo, at, line, Filled}
-use Rattle.loops.specs.TileLaws.{filled-none}
+use Rattle.loops.specs.Tiles.{upTo, at, line}
 use Rattle.loops.specs.PanelLaws.{lane-more, lanes-all, lanes-ext}
 use Rattle.cgemm_kernel.specs.declared.kernel.Halves.{Halves}
 use Rattle.cgemm_kernel.specs.Parts.{both}

@@ -2,9 +2,10 @@
 use Prim.Native.Nat.{_-_}
 use mathlib.Core.Path.{refl}
 use lib.Ieee.{nan}
+use Rattle.rules.specs.Lists.{Filled}
+use Rattle.rules.specs.ListLaws.{filled-none, filled-more, filled-all}
 use Rattle.element.specs.Complex32.{tiling, held}
-use Rattle.loops.specs.Tiles.{at, Filled}
-use Rattle.loops.specs.TileLaws.{filled-none, filled-more, filled-all}
+use Rattle.loops.specs.Tiles.{at}
 use borrow.Author.Needs.{needs}
 use Rattle.cgemm_kernel.proofs.kernel.halves_of.Statement.{statement}
 use Rattle.cgemm_kernel.proofs.kernel.halves_of.Tie as tie

@@ -4,11 +4,12 @@ use mathlib.Core.Path.{ap, _∙_}
 use mathlib.Core.List.{List, []}
 use native.Mathlib.Omega.{arith}
 use lib.ListN.{getD}
-use Rattle.element.specs.Element.{Complex}
+use Rattle.rules.specs.Element.{Complex}
+use Rattle.rules.specs.Lists.{Filled}
+use Rattle.rules.specs.ListLaws.{filled-none, filled-more, filled-all}
 use Rattle.element.specs.Complex32.{arith as ar, tiling, held}
 use Rattle.element.specs.declared.complex32.Complex32.{Complex32}
-use Rattle.loops.specs.Tiles.{at, line, stepped, Filled}
-use Rattle.loops.specs.TileLaws.{filled-none, filled-more, filled-all}
+use Rattle.loops.specs.Tiles.{at, line, stepped}
 use Rattle.cgemm_kernel.specs.declared.kernel.Parts.{Parts}
 use Rattle.cgemm_kernel.specs.Parts.{both}
 use borrow.Author.Needs.{needs}

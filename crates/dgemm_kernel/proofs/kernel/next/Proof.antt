@@ -3,8 +3,8 @@
 use mathlib.Core.Path.{ap, _∙_}
 use mathlib.Core.List.{List}
 use lib.Ieee.{Float, nan}
+use Rattle.rules.specs.ListLaws.{getD-tab}
 use Rattle.element.specs.Real64.{kind, arith as ar, tiling, held}
-use Rattle.element.specs.ListLaws.{getD-tab}
 use Rattle.loops.specs.Panels.{packingOf}
 use Rattle.loops.specs.Tiles.{at}
 use Rattle.loops.specs.TileLaws.{summed-more}

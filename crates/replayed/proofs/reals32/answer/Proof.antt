@@ -6,10 +6,10 @@ use borrow.Author.Needs.{needs}
 use lib.Ieee.{binary32}
 use lib.ListN.{getD, drop}
 use denote.Ref.{now}
-use Rattle.element.specs.Element.{Complex}
+use Rattle.rules.specs.Element.{Complex}
 use Rattle.element.specs.Complex32.{number}
 use Rattle.element.specs.declared.kind.Kind.the-variants.{F32, C32}
-use Rattle.sample.specs.Floats.{complexOf}
+use Rattle.floats.specs.Floats.{complexOf}
 use Rattle.replayed.specs.ReplayLaws.{kind-below, kind-from, ran-by}
 use Rattle.replayed.proofs.reals32.answer.Statement.{statement}
 use Rattle.replayed.proofs.reals32.answer.Tie as tie

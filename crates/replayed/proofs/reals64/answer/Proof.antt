@@ -7,10 +7,10 @@ use borrow.Author.Needs.{needs}
 use lib.Ieee.{binary64}
 use lib.ListN.{getD, drop}
 use denote.Ref.{now}
-use Rattle.element.specs.Element.{Complex}
+use Rattle.rules.specs.Element.{Complex}
 use Rattle.element.specs.Complex64.{number}
 use Rattle.element.specs.declared.kind.Kind.the-variants.{F64, C64}
-use Rattle.sample.specs.Floats.{complexOf}
+use Rattle.floats.specs.Floats.{complexOf}
 use Rattle.replayed.specs.ReplayLaws.{kind-below, kind-from, ran-by}
 use Rattle.replayed.proofs.reals64.answer.Statement.{statement}
 use Rattle.replayed.proofs.reals64.answer.Tie as tie

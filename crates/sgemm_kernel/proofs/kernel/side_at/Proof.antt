@@ -2,10 +2,10 @@
 use Prim.Native.Nat.{_-_}
 use mathlib.Core.Path.{refl}
 use lib.Ieee.{nan}
+use Rattle.rules.specs.Lists.{Filled}
+use Rattle.rules.specs.ListLaws.{filled-none, filled-more, filled-all}
 use Rattle.element.specs.Real32.{kind, tiling}
 use Rattle.loops.specs.Panels.{packingOf}
-use Rattle.loops.specs.Tiles.{Filled}
-use Rattle.loops.specs.TileLaws.{filled-none, filled-more, filled-all}
 use borrow.Author.Needs.{needs}
 use Rattle.sgemm_kernel.proofs.kernel.side_at.Statement.{statement}
 use Rattle.sgemm_kernel.proofs.kernel.side_at.Tie as tie

@@ -5,9 +5,10 @@ use mathlib.Core.List.{List, []}
 use native.Mathlib.Omega.{arith}
 use lib.ListN.{getD}
 use lib.Ieee.{Float}
+use Rattle.rules.specs.Lists.{Filled}
+use Rattle.rules.specs.ListLaws.{filled-none, filled-more, filled-all}
 use Rattle.element.specs.Real32.{arith as ar, tiling, held}
-use Rattle.loops.specs.Tiles.{at, line, stepped, Filled}
-use Rattle.loops.specs.TileLaws.{filled-none, filled-more, filled-all}
+use Rattle.loops.specs.Tiles.{at, line, stepped}
 use borrow.Author.Needs.{needs}
 use Rattle.sgemm_kernel.proofs.kernel.step.Statement.{statement}
 use Rattle.sgemm_kernel.proofs.kernel.step.Tie as tie

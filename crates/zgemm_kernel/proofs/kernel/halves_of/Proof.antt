@@ -3,9 +3,10 @@
 use Prim.Native.Nat.{_-_}
 use mathlib.Core.Path.{refl}
 use lib.Ieee.{nan}
+use Rattle.rules.specs.Lists.{Filled}
+use Rattle.rules.specs.ListLaws.{filled-none, filled-more, filled-all}
 use Rattle.element.specs.Complex64.{tiling, held}
-use Rattle.loops.specs.Tiles.{at, Filled}
-use Rattle.loops.specs.TileLaws.{filled-none, filled-more, filled-all}
+use Rattle.loops.specs.Tiles.{at}
 use borrow.Author.Needs.{needs}
 use Rattle.zgemm_kernel.proofs.kernel.halves_of.Statement.{statement}
 use Rattle.zgemm_kernel.proofs.kernel.halves_of.Tie as tie

@@ -3,7 +3,7 @@
 use Prim.Native.Nat.{_-_, _≤_}
 use mathlib.Core.Path.{_≡_, ap, _∙_}
 use native.Mathlib.Omega.{arith}
-use Rattle.element.specs.Element.{Complex}
+use Rattle.rules.specs.Element.{Complex}
 use Rattle.element.specs.Complex64.{kind, arith as ar, tiling, held}
 use Rattle.loops.specs.Panels.{packingOf}
 use Rattle.loops.specs.Tiles.{columns, summed}

@@ -2,7 +2,6 @@
 use mathlib.Core.Path.{sym, ap}
 use borrow.Author.Needs.{needs}
 use Rattle.element.specs.Kinds.{tilingOf}
-use Rattle.element.specs.declared.kind.Kind.{Kind}
 use Rattle.element.proofs.kind.Kind.tiling.Statement.{statement}
 use Rattle.element.proofs.kind.Kind.tiling.Tie as tie
 

@@ -1,4 +1,0 @@
--- What several of the crate's proofs cite.
-pub mod ByteLaws
-pub mod FloatLaws
-pub mod SignLaws
