@@ -1,4 +1,4 @@
-// The floats of a call over f32, as words: a float is its pattern.
+// Floats of f32 in words: a float is its pattern.
 ghost use mathlib.Core.Path.{_≡_};
 ghost use Prim.Native.Nat.{_*_, _<_};
 ghost use lib.Ieee.{binary32, top};

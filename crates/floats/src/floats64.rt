@@ -1,5 +1,5 @@
 // Derived from crates/floats/src/floats32.rt by tools/derive: edit that.
-// The floats of a call over f64, as words: a float is its pattern.
+// Floats of f64 in words: a float is its pattern.
 ghost use mathlib.Core.Path.{_≡_};
 ghost use Prim.Native.Nat.{_*_, _<_};
 ghost use lib.Ieee.{binary64, top};

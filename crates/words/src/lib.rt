@@ -1,4 +1,4 @@
-// The file as words: eight bytes each, the lowest first.
+// Bytes as words, eight bytes each, the lowest first; and what words hold.
 ghost use mathlib.Core.Path.{_≡_};
 ghost use Prim.Native.Nat.{_<_, _^_};
 ghost use lib.ListN.{length, getD, drop};
