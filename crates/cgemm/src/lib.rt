@@ -1,4 +1,4 @@
 // Derived from crates/sgemm/src/lib.rt by tools/derive: edit that.
-// cgemm: C becomes alpha A B + beta C, in the kind Complex32.
+// cgemm: C becomes alpha A B + beta C, in the kind Complex32: the entry point, and C where the depth is zero.
 pub mod gemm;
 mod scale;

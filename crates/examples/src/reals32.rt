@@ -21,7 +21,7 @@ fn one(name: &[u8], k: usize, alpha: f32, a: &[f32], b: &[f32], beta: f32, old: 
     show::text(b"\n");
 }
 
-// The same where A and B are one number each.
+// The same where A and B are one number each. Apart, because `all` takes the longer to check the more slices it makes.
 fn of_numbers(name: &[u8], k: usize, alpha: f32, a: f32, b: f32, beta: f32, old: f32) {
     one(name, k, alpha, &[a], &[b], beta, old);
 }

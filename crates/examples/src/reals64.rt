@@ -21,7 +21,7 @@ fn one(name: &[u8], k: usize, alpha: f64, a: &[f64], b: &[f64], beta: f64, old: 
     show::text(b"\n");
 }
 
-// The same where A and B are one number each.
+// The same where A and B are one number each. Apart, because `all` takes the longer to check the more slices it makes.
 fn of_numbers(name: &[u8], k: usize, alpha: f64, a: f64, b: f64, beta: f64, old: f64) {
     one(name, k, alpha, &[a], &[b], beta, old);
 }

@@ -51,7 +51,7 @@ nan-float f word l h =
     let above : isNan (ofBits f word) ≡ true = sym (nanBits-is f word) ∙ nanBits-above f word ∙ lt-ltb (ones f * hid f) (word % top f) h in
     sym (is-nan (ofBits f word) above) ∙ pattern-float f word l
 
--- ---- is a float the recorded one, y, which is w?
+-- ---- is a float the word's, y, which is w?
 
 module _ {x y w : Float} (e : y ≡ w) where
   pub nan-tells : ne x x ≡ true → Tells (ne y y) (x ≡ w)

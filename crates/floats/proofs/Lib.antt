@@ -1,2 +1,2 @@
--- What several of the crate's proofs cite.
+-- What the crate's proofs cite.
 pub mod FloatLaws

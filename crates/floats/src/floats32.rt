@@ -1,4 +1,4 @@
-// Floats of f32 in words: a float is its pattern.
+// f32 in words: a float is its pattern.
 ghost use mathlib.Core.Path.{_≡_};
 ghost use Prim.Native.Nat.{_*_, _<_};
 ghost use lib.Ieee.{binary32, top};
@@ -42,14 +42,14 @@ fn float_of(word: u64) -> f32
 fn matches(x: f32, word: u64) -> bool
     ensures { λ r. ⌜ Tells r (x ≡ floatOf binary32 word) ⌝ }
 {
-    let recorded = float_of(word);
+    let held = float_of(word);
     if x != x {
-        return recorded != recorded;
+        return held != held;
     }
-    if recorded != recorded {
+    if held != held {
         return false;
     }
-    f32::to_bits(x) == f32::to_bits(recorded)
+    f32::to_bits(x) == f32::to_bits(held)
 }
 
 // Fills floats from as many words, and answers the words behind those.

@@ -1,5 +1,5 @@
 // Derived from crates/floats/src/floats32.rt by tools/derive: edit that.
-// Floats of f64 in words: a float is its pattern.
+// f64 in words: a float is its pattern.
 ghost use mathlib.Core.Path.{_≡_};
 ghost use Prim.Native.Nat.{_*_, _<_};
 ghost use lib.Ieee.{binary64, top};
@@ -43,14 +43,14 @@ fn float_of(word: u64) -> f64
 fn matches(x: f64, word: u64) -> bool
     ensures { λ r. ⌜ Tells r (x ≡ floatOf binary64 word) ⌝ }
 {
-    let recorded = float_of(word);
+    let held = float_of(word);
     if x != x {
-        return recorded != recorded;
+        return held != held;
     }
-    if recorded != recorded {
+    if held != held {
         return false;
     }
-    f64::to_bits(x) == f64::to_bits(recorded)
+    f64::to_bits(x) == f64::to_bits(held)
 }
 
 // Fills floats from as many words, and answers the words behind those.

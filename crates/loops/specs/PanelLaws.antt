@@ -11,15 +11,13 @@ use lib.Seq.{getD-drop, getD-append-add, take-all}
 use lib.Ieee.{Float, nan}
 use Rattle.rules.specs.Element.{Arith, Complex, chunks}
 use Rattle.rules.specs.Held.{Held}
-use Rattle.rules.specs.Lists.{cat, splice}
+use Rattle.rules.specs.Lists.{cat, splice, Filled}
 use Rattle.rules.specs.ListLaws.{length-cat, length-splice, getD-cat, cat-none, cat-more, set-splice, splice-splice, cat-ext, getD-tab}
-use Rattle.rules.specs.ListLaws.{tab-ext}
+use Rattle.rules.specs.ListLaws.{tab-ext, filled-more, filled-rest}
 use Rattle.element.specs.declared.kind.Kind.{Kind}
 use Rattle.element.specs.declared.kind.Kind.the-variants.{F32, F64, C32, C64}
 use Rattle.loops.specs.Panels.{Packing, singles, realPacking, complexPacking, packingOf, padded, packedPanel, packed, unpacked}
-use Rattle.rules.specs.Lists.{Filled}
 use Rattle.loops.specs.Tiles.{upTo, at, line}
-use Rattle.rules.specs.ListLaws.{filled-more, filled-rest}
 use Rattle.loops.specs.TileLaws.{upTo-in, upTo-past}
 
 -- the next w fit where all of n times w do

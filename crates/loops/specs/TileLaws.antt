@@ -7,7 +7,6 @@ use native.Mathlib.Numerals.{add-one}
 use borrow.Author.Tests.{lt-ltb, le-ltb}
 use Rattle.rules.specs.Element.{Arith, chunkSum}
 use Rattle.rules.specs.Held.{Held}
-use Rattle.rules.specs.Lists.{tab}
 use Rattle.rules.specs.ListLaws.{getD-tab, tab-ext}
 use Rattle.loops.specs.Tiles.{upTo, at, line, lines, cell, columns, stepped, summed}
 use Rattle.loops.specs.Panels.{padded}

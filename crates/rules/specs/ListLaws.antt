@@ -11,8 +11,7 @@ use native.Mathlib.Decide.{decLt}
 use native.Mathlib.Omega.{arith}
 use borrow.Author.Count.{below-more}
 use borrow.Rule.Slice.PartMut.{midOf, putMid}
-use lib.ListN.{drop-of-length-le, length, take, drop, getD, set, take-append-drop, length-append, length-drop, length-set}
-use lib.ListN.{List·getD-append}
+use lib.ListN.{drop-of-length-le, length, take, drop, getD, set, take-append-drop, length-append, length-drop, length-set, List·getD-append}
 use lib.Seq.{take-all, set-split, take-at, drop-at, drop-drop, length-take-le, getD-append-add, getD-drop, ext-getD}
 use lib.Seq.{getD-set-same, getD-set-other}
 use Rattle.rules.specs.Lists.{tab, cat, splice, Filled}

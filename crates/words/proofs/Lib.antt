@@ -1,3 +1,3 @@
--- What several of the crate's proofs cite.
+-- What the crate's proofs cite.
 pub mod ByteLaws
 pub mod SignLaws

@@ -8,6 +8,6 @@ unfoldable pub numberAt : ℕ → List ℕ → ℕ → ℕ
 numberAt zero bytes i = 0
 numberAt (suc count) bytes i = getD bytes i 0 + 256 * numberAt count bytes (suc i)
 
--- word i of a file
+-- word i of some bytes
 abbrev pub wordOf : List ℕ → ℕ → ℕ
 wordOf bytes i = numberAt 8 bytes (8 * i)

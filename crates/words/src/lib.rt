@@ -1,4 +1,4 @@
-// Bytes as words, eight bytes each, the lowest first; and what words hold.
+// Bytes as words, eight bytes each, the lowest first; a word by its index, the words behind some, a word as a signed number.
 ghost use mathlib.Core.Path.{_≡_};
 ghost use Prim.Native.Nat.{_<_, _^_};
 ghost use lib.ListN.{length, getD, drop};

@@ -3,8 +3,8 @@ use native.Mathlib.Omega.{arith}
 use lib.ListN.{length-set}
 use denote.Ref.{now}
 use borrow.Author.Needs.{needs}
-use Rattle.element.specs.Complex32.{number}
 use Rattle.rules.specs.StoreLaws.{stored-pair}
+use Rattle.element.specs.Complex32.{number}
 use Rattle.element.proofs.complex32.write.Statement.{statement}
 use Rattle.element.proofs.complex32.write.Tie as tie
 
