@@ -1,91 +1,17 @@
 // The examples that are not marked P: places of C, collisions, the need, the largest size; in both real kinds where they name values.
+use crate::reals32;
+use crate::reals64;
 use call::answer::Answer;
-use dgemm::gemm::dgemm;
 use element::kind::Kind;
 use layout::need::PackLength;
 use layout::need::pack_length;
 use layout::operand::Operand;
 use sgemm::gemm::sgemm;
 
-fn answered(name: &[u8], r: Answer) {
+pub fn answered(name: &[u8], r: Answer) {
     show::text(name);
     show::text(b" ");
     show::whole(r.number());
-}
-
-// A = 1, 2, 3 times B = 1 into three elements that lie downwards from base.
-fn downwards32(base: usize) {
-    let mut c = [7.0f32, 7.0, 7.0];
-    let mut pack = [0.0f32; 16];
-    let la = Operand {
-        base: 0,
-        rs: 1,
-        cs: 1,
-    };
-    let lc = Operand {
-        base: base,
-        rs: -1,
-        cs: 1,
-    };
-    let r = sgemm(
-        3,
-        1,
-        1,
-        1.0,
-        &[1.0f32, 2.0, 3.0],
-        la,
-        &[1.0f32],
-        la,
-        0.0,
-        &mut c,
-        lc,
-        &mut pack,
-    );
-    answered(b"sgemm downwards", r);
-    show::text(b" ");
-    show::bits32(c[0]);
-    show::text(b" ");
-    show::bits32(c[1]);
-    show::text(b" ");
-    show::bits32(c[2]);
-    show::text(b"\n");
-}
-
-fn downwards64(base: usize) {
-    let mut c = [7.0f64, 7.0, 7.0];
-    let mut pack = [0.0f64; 16];
-    let la = Operand {
-        base: 0,
-        rs: 1,
-        cs: 1,
-    };
-    let lc = Operand {
-        base: base,
-        rs: -1,
-        cs: 1,
-    };
-    let r = dgemm(
-        3,
-        1,
-        1,
-        1.0,
-        &[1.0f64, 2.0, 3.0],
-        la,
-        &[1.0f64],
-        la,
-        0.0,
-        &mut c,
-        lc,
-        &mut pack,
-    );
-    answered(b"dgemm downwards", r);
-    show::text(b" ");
-    show::bits64(c[0]);
-    show::text(b" ");
-    show::bits64(c[1]);
-    show::text(b" ");
-    show::bits64(c[2]);
-    show::text(b"\n");
 }
 
 // An m by n C of so many elements, with these strides.
@@ -152,10 +78,10 @@ fn packed(pack: &mut [f32]) {
 }
 
 pub fn all() {
-    downwards32(2);
-    downwards32(1);
-    downwards64(2);
-    downwards64(1);
+    reals32::downwards(2);
+    reals32::downwards(1);
+    reals64::downwards(2);
+    reals64::downwards(1);
     let near = Operand {
         base: 0,
         rs: 1,

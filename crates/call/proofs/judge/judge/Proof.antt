@@ -26,6 +26,12 @@ start3 c = start1 (else1 c)
 abbrev else3 : tie.Else4 → tie.Else3
 else3 c = c .before .before .before
 
+abbrev else4 : tie.Else5 → tie.Else4
+else4 c = c .before .before
+
+abbrev else5 : tie.Else6 → tie.Else5
+else5 c = c .before .before .before
+
 -- what each stage that was passed shows
 sizes-done : (c : tie.Else1) → SizesThen (start1 c .args .q) done 0
 sizes-done c =
@@ -41,6 +47,13 @@ c-done c =
     let a = start3 (else3 c) .args in
     let s = c .before .before .c-alone in
     at-done (CThen (a .kind) (a .q) (a .floats) done) (answerNumber (s .result)) (omega (arith, c .before .number2 .ensures, c .if4 .left))
+    (s .ensures)
+
+ab-done : (c : tie.Else6) → let a = start3 (else3 (else4 (else5 c))) .args in ABThen (a .kind) (a .q) (a .floats) done 0
+ab-done c =
+    let a = start3 (else3 (else4 (else5 c))) .args in
+    let s = c .before .before .a-and-b in
+    at-done (ABThen (a .kind) (a .q) (a .floats) done) (answerNumber (s .result)) (omega (arith, c .before .number3 .ensures, c .if6 .left))
     (s .ensures)
 
 returns : tie.Need-returns
@@ -86,7 +99,7 @@ a-and-b-requires c κs = sizes-done (else1 (else3 (c .before .before)))
 returns-6 : tie.Need-returns-6
 returns-6 c =
     let f = c .before .before .before in
-    let d = f .before .before in
+    let d = else4 f in
     let e = else3 d in
     let a = start3 e .args in
     let s = c .before .before .a-and-b in
@@ -95,17 +108,12 @@ returns-6 c =
 
 returns-7 : tie.Need-returns-7
 returns-7 c =
-    let g = c .before in
-    let f = g .before .before .before in
-    let d = f .before .before in
+    let f = else5 (c .before) in
+    let d = else4 f in
     let e = else3 d in
     let a = start3 e .args in
-    let s = g .before .before .a-and-b in
     judged-room (a .kind) (a .pack) (a .q) (a .floats) (answerNumber (c .room .result)) (sizes-done (else1 e)) (some e) (c-done d)
-    (f .if5 .left)
-    (at-done (ABThen (a .kind) (a .q) (a .floats) done) (answerNumber (s .result))
-    (omega (arith, g .before .number3 .ensures, g .if6 .left)) (s .ensures))
-    (c .room .ensures)
+    (f .if5 .left) (ab-done (c .before)) (c .room .ensures)
 
 pub judge-spec : {M : Type 1} → statement M
 judge-spec =
