@@ -41,20 +41,38 @@ int main(void) {
     printf("%s: %g%+gi\n", hewn_answer_text(answer), z[0], z[1]);
     if (answer != HEWN_DONE || z[0] != -10 || z[1] != -5) return 1;
 
+    /* a file of 1 by 2 doubles, 0.5 and -2; a destination of one is too short */
+    static const uint8_t file[] = "IVP\1\0\2\1\0\2\0\0\0\0\0\0\0\xE0\x3F\0\0\0\0\0\0\0\xC0";
+    double numbers[3] = {7, 8, 9};
+    hewn_header head = hewn_read_f64(file, 26, numbers, 1);
+    printf("%s: %g\n", hewn_answer_text(head.answer), numbers[0]);
+    if (head.answer != HEWN_NO_ROOM || numbers[0] != 7) return 1;
+    head = hewn_read_f64(file, 26, numbers, 3);
+    printf("%s: %u by %u, %g %g %g\n", hewn_answer_text(head.answer), head.rows, head.columns, numbers[0], numbers[1], numbers[2]);
+    if (head.answer != HEWN_DONE || numbers[0] != 0.5 || numbers[1] != -2 || numbers[2] != 9) return 1;
+    if (hewn_panel_element_f64(numbers, 3, head.rows, head.columns, 0, 1).element != -2) return 1;
+    if (hewn_panel_element_f64(numbers, 3, head.rows, head.columns, 1, 0).answer != HEWN_OUTSIDE_PANEL) return 1;
+
     /* the answers' words */
-    static const char *const words[] = {
-        "done",
-        "m, k or n is above 65,536",
-        "a stride of A, B or C is above 2,147,483,648 in magnitude",
-        "a place of C is outside C's slice",
-        "two different places of C are the same element",
-        "a place of A is outside A's slice",
-        "a place of B is outside B's slice",
-        "the pack buffer is shorter than the need",
-        "no answer of this interface",
+    static const char *const words[32] = {
+        [0] = "done",
+        [1] = "m, k or n is above 65,536",
+        [2] = "a stride of A, B or C is above 2,147,483,648 in magnitude",
+        [3] = "a place of C is outside C's slice",
+        [4] = "two different places of C are the same element",
+        [5] = "a place of A is outside A's slice",
+        [6] = "a place of B is outside B's slice",
+        [7] = "the pack buffer is shorter than the need",
+        [21] = "the file has fewer than ten bytes",
+        [22] = "the file does not begin with the mark IVP",
+        [23] = "the file's version is not known",
+        [24] = "the file's kind is not the one asked for",
+        [25] = "the file's length is not what its rows and columns say",
+        [26] = "the destination is shorter than the panel",
+        [30] = "the place is outside the panel's shape or beyond its numbers",
     };
-    for (uint64_t x = HEWN_DONE; x <= HEWN_PACK_SHORT + 1; x++)
-        if (strcmp(hewn_answer_text(x), words[x]) != 0) return 1;
+    for (uint64_t x = 0; x < sizeof words / sizeof *words; x++)
+        if (strcmp(hewn_answer_text(x), words[x] == NULL ? "no answer of this interface" : words[x]) != 0) return 1;
 
     /* the largest needs */
     if (hewn_sgemm_need(65536, 65536, 65536).elements != HEWN_SGEMM_MAX_NEED) return 1;

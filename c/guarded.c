@@ -7,22 +7,11 @@
 
    A sanitizer (-fsanitize=address,undefined) watches this program and the header, not the archive, which is not built with
    one: the pages watch that. */
-#define _DEFAULT_SOURCE
-#include "hewnspandrel.h"
-#include <signal.h>
-#include <stdio.h>
-#include <stdlib.h>
-#include <string.h>
-#include <sys/mman.h>
-#include <unistd.h>
-
+#define PROGRAM "guarded"
 enum { A, B, C, PACK, AREAS };
+#include "pages.h"
+#include "hewnspandrel.h"
 
-/* Bytes between two guard pages, enough for the largest need and a margin. */
-enum { AREA = 4 << 20, MARGIN = 256, MARK = 0xA5 };
-
-static unsigned char *areas[AREAS];
-static int at_end; /* the slices end at a guard page, or begin after one */
 static unsigned long done, refused;
 
 /* A call but for its numbers. */
@@ -35,54 +24,11 @@ typedef struct {
     uint64_t expected;
 } setting;
 
-static char what[400];
-
 static void describe(const setting *s) {
     snprintf(what, sizeof what, "%s %zu %zu %zu, A %zu %td %td, B %zu %td %td, C %zu %td %td, floats %zu %zu %zu %zu, expected %d, %s\n",
              s->kind, s->m, s->k, s->n, s->operands[A].base, s->operands[A].rs, s->operands[A].cs, s->operands[B].base,
              s->operands[B].rs, s->operands[B].cs, s->operands[C].base, s->operands[C].rs, s->operands[C].cs, s->lengths[A],
              s->lengths[B], s->lengths[C], s->lengths[PACK], (int)s->expected, at_end ? "at a page's end" : "at a page's start");
-}
-
-static void fail(const char *why) {
-    fprintf(stderr, "guarded: %s: %s", why, what);
-    exit(1);
-}
-
-static void faulted(int number) {
-    (void)number;
-    static const char why[] = "guarded: a forbidden page was touched: ";
-    if (write(2, why, sizeof why - 1) < 0 || write(2, what, strlen(what)) < 0) _exit(3);
-    _exit(2);
-}
-
-static void map(void) {
-    size_t page = (size_t)sysconf(_SC_PAGESIZE);
-    for (int which = 0; which < AREAS; which++) {
-        unsigned char *start = mmap(NULL, AREA + 2 * page, PROT_NONE, MAP_PRIVATE | MAP_ANONYMOUS, -1, 0);
-        if (start == MAP_FAILED) fail("no memory");
-        areas[which] = start + page;
-    }
-}
-
-static void allow(int which, int protection) {
-    if (mprotect(areas[which], AREA, protection) != 0) fail("mprotect");
-}
-
-/* A slice of so many bytes in its area. Where it has none, it points at the guard page itself. */
-static unsigned char *slice(int which, size_t bytes) {
-    return at_end ? areas[which] + AREA - bytes : bytes == 0 ? areas[which] - 1 : areas[which];
-}
-
-/* The bytes on the side of a slice where no guard page is. */
-static unsigned char *margin(int which, size_t bytes) {
-    return at_end ? areas[which] + AREA - bytes - MARGIN : areas[which] + bytes;
-}
-
-static void margin_kept(int which, size_t bytes) {
-    const unsigned char *beside = margin(which, bytes);
-    for (size_t x = 0; x < MARGIN; x++)
-        if (beside[x] != MARK) fail("a byte beside a slice was changed");
 }
 
 static size_t place(hewn_operand l, size_t i, size_t j) {
@@ -197,11 +143,6 @@ int main(void) {
         {0, 3, 2}, {3, 0, 2}, {2, 3, 0}, {1, 1, 1}, {1, 7, 1}, {2, 3, 4}, {4, 1, 4}, {5, 4, 3}, {8, 8, 8}, {9, 5, 7},
         {13, 17, 11}, {4, 256, 2}, {5, 257, 3}, {2, 513, 5}, {32, 3, 9}, {33, 5, 2}, {64, 2, 4}, {65, 3, 9}, {3, 2, 513}, {2, 1, 1025},
     };
-    struct sigaction action;
-    memset(&action, 0, sizeof action);
-    action.sa_handler = faulted;
-    sigaction(SIGSEGV, &action, NULL);
-    sigaction(SIGBUS, &action, NULL);
     map();
     for (at_end = 0; at_end < 2; at_end++)
         for (size_t which = 0; which < sizeof kinds / sizeof *kinds; which++)

@@ -1,5 +1,6 @@
-/* Hewnspandrel: C = alpha A B + beta C for real and complex matrices, proved in Rattle. Its bits are those of the Rust crate
-   matrixmultiply 0.3.11 where that fuses nothing, which is tested. For x86-64 Linux, C99 or C++.
+/* Hewnspandrel: C = alpha A B + beta C for real and complex matrices, and panels read from files, proved in Rattle. The bits
+   of a product are those of the Rust crate matrixmultiply 0.3.11 where that fuses nothing, which is tested. For x86-64
+   Linux, C99 or C++.
 
    A (m by k), B (k by n) and C (m by n) are slices: a pointer and the number of floats behind it. An operand says where
    place (0,0) lies and how far it is from one row and from one column to the next, in whole elements; place (i,j) is the
@@ -21,15 +22,31 @@
    After 1 and 2, a call with m or n zero is done and nothing more is looked at. After 4, a call with k zero makes C
    beta C and is done; A, B and the pack buffer are not looked at. Where beta is zero, old C is ignored.
 
+   A panel file is the mark IVP, a version (1), a byte for the kind (1 float, 2 double), rows, columns, and the elements row
+   by row; version, rows and columns have 16 bits, and all numbers are little-endian. A read that is done fills the first
+   rows times columns of the numbers and leaves the rest; a NaN is read as a NaN, whose pattern may be another. Answers of a
+   read, the first that applies; a refused one has stored nothing:
+     0  HEWN_DONE            done
+    21  HEWN_FILE_SHORT      the file has fewer than ten bytes
+    22  HEWN_WRONG_MARK      the file does not begin with the mark IVP
+    23  HEWN_UNKNOWN_VERSION the file's version is not known
+    24  HEWN_WRONG_KIND      the file's kind is not the one asked for
+    25  HEWN_WRONG_LENGTH    the file's length is not what its rows and columns say
+    26  HEWN_NO_ROOM         the destination is shorter than the panel
+   A panel is numbers with a shape, rows by columns; place (row, column) is the number row columns + column. The question
+   for its element is answered 0, or
+    30  HEWN_OUTSIDE_PANEL   the place is outside the panel's shape or beyond its numbers
+
    What the caller owes, and nobody checks:
-     - each pointer is valid for as many floats as its length says, and aligned as floats are; where the length is 0, any
-       pointer will do, NULL too;
-     - C and the pack buffer overlap nothing else of the call, nor each other; A and B may overlap or be one slice;
-     - nobody else writes to the slices of a call, or reads C or the pack buffer, while it runs;
+     - each pointer is valid for as many floats, or bytes of a file, as its length says, and aligned as they are; where the
+       length is 0, any pointer will do, NULL too;
+     - C and the pack buffer overlap nothing else of the call, nor each other; A and B may overlap or be one slice; a file
+       and the numbers that it is read into do not overlap;
+     - nobody else writes to the slices of a call, or reads C, the pack buffer or the numbers read into, while it runs;
      - the thread's floating-point environment is the ordinary one: rounding to nearest, subnormal numbers kept, no exception
        trapped. In another one C may get other bits. A program that gcc or clang links with -ffast-math has another one from
        its start: it flushes subnormal numbers to zero.
-   Any sizes, strides and bases get an answer.
+   Any sizes, strides, bases, bytes and places get an answer.
 
    After a call that is done, the first need elements of the pack buffer may hold anything; the rest is unchanged, and all
    of it where m, k or n is zero. */
@@ -45,7 +62,7 @@ extern "C" {
 
 /* The version of this interface. A program that includes this header links only with an archive of the same version: each
    file that includes it refers to the archive's function of that name. */
-#define HEWN_INTERFACE 1
+#define HEWN_INTERFACE 2
 
 #define HEWN_PASTE(x, y) x##y
 #define HEWN_NAMED(x, y) HEWN_PASTE(x, y)
@@ -71,6 +88,13 @@ typedef struct { double re; double im; } hewn_complex64;
    must have, or answer 1 (a size is above 65,536) and 0 elements. */
 typedef struct { uint64_t answer; size_t elements; } hewn_length;
 
+/* A read: answer 0 and what the file's head says, or the refusal's number and zeros. */
+typedef struct { uint64_t answer; uint16_t version; uint16_t rows; uint16_t columns; } hewn_header;
+
+/* An element of a panel: answer 0 and the element, or answer 30 and a NaN. */
+typedef struct { uint64_t answer; float element; } hewn_element_f32;
+typedef struct { uint64_t answer; double element; } hewn_element_f64;
+
 enum {
     HEWN_DONE = 0,
     HEWN_TOO_LARGE = 1,
@@ -79,7 +103,14 @@ enum {
     HEWN_COLLIDES_C = 4,
     HEWN_OUTSIDE_A = 5,
     HEWN_OUTSIDE_B = 6,
-    HEWN_PACK_SHORT = 7
+    HEWN_PACK_SHORT = 7,
+    HEWN_FILE_SHORT = 21,
+    HEWN_WRONG_MARK = 22,
+    HEWN_UNKNOWN_VERSION = 23,
+    HEWN_WRONG_KIND = 24,
+    HEWN_WRONG_LENGTH = 25,
+    HEWN_NO_ROOM = 26,
+    HEWN_OUTSIDE_PANEL = 30
 };
 
 /* What an answer means, in words. */
@@ -93,6 +124,13 @@ static inline const char *hewn_answer_text(uint64_t answer) {
     case HEWN_OUTSIDE_A: return "a place of A is outside A's slice";
     case HEWN_OUTSIDE_B: return "a place of B is outside B's slice";
     case HEWN_PACK_SHORT: return "the pack buffer is shorter than the need";
+    case HEWN_FILE_SHORT: return "the file has fewer than ten bytes";
+    case HEWN_WRONG_MARK: return "the file does not begin with the mark IVP";
+    case HEWN_UNKNOWN_VERSION: return "the file's version is not known";
+    case HEWN_WRONG_KIND: return "the file's kind is not the one asked for";
+    case HEWN_WRONG_LENGTH: return "the file's length is not what its rows and columns say";
+    case HEWN_NO_ROOM: return "the destination is shorter than the panel";
+    case HEWN_OUTSIDE_PANEL: return "the place is outside the panel's shape or beyond its numbers";
     default: return "no answer of this interface";
     }
 }
@@ -131,6 +169,14 @@ hewn_length hewn_sgemm_need(size_t m, size_t k, size_t n);
 hewn_length hewn_dgemm_need(size_t m, size_t k, size_t n);
 hewn_length hewn_cgemm_need(size_t m, size_t k, size_t n);
 hewn_length hewn_zgemm_need(size_t m, size_t k, size_t n);
+
+hewn_header hewn_read_f32(const uint8_t *file, size_t file_len, float *numbers, size_t numbers_len);
+hewn_header hewn_read_f64(const uint8_t *file, size_t file_len, double *numbers, size_t numbers_len);
+
+hewn_element_f32 hewn_panel_element_f32(const float *numbers, size_t numbers_len, uint16_t rows, uint16_t columns,
+                                        size_t row, size_t column);
+hewn_element_f64 hewn_panel_element_f64(const double *numbers, size_t numbers_len, uint16_t rows, uint16_t columns,
+                                        size_t row, size_t column);
 
 #ifdef __cplusplus
 }

@@ -1,10 +1,10 @@
-//! The C interface of the proved library, as include/hewnspandrel.h declares it. A slice is a pointer and its number of floats.
+//! The C interface of the proved library, as include/hewnspandrel.h declares it. A slice is a pointer and its number of elements.
 
 use crate::Operand;
 
 extern "C" {
     /// Named after the interface's version, so that an archive with another one does not link with this crate.
-    fn hewn_interface_1() -> u64;
+    fn hewn_interface_2() -> u64;
 }
 
 /// Has the linker look for the interface's version. Each function of this crate calls it before it calls the archive: no
@@ -12,7 +12,7 @@ extern "C" {
 #[inline]
 pub fn same_interface() {
     // SAFETY: numbers only.
-    unsafe { hewn_interface_1() };
+    unsafe { hewn_interface_2() };
 }
 
 /// A complex number, by value.
@@ -35,6 +35,22 @@ pub struct Length {
     pub elements: usize,
 }
 
+/// The answer to a read: 0 and what the file's head says, or the refusal's number and zeros.
+#[repr(C)]
+pub struct Head {
+    pub answer: u64,
+    pub version: u16,
+    pub rows: u16,
+    pub columns: u16,
+}
+
+/// The answer to the question for an element: 0 and the element, or the refusal's number and a NaN.
+#[repr(C)]
+pub struct Element<R> {
+    pub answer: u64,
+    pub element: R,
+}
+
 macro_rules! declare {
     ($call:ident, $need:ident, $real:ty, $number:ty) => {
         extern "C" {
@@ -54,3 +70,25 @@ declare!(hewn_sgemm, hewn_sgemm_need, f32, f32);
 declare!(hewn_dgemm, hewn_dgemm_need, f64, f64);
 declare!(hewn_cgemm, hewn_cgemm_need, f32, Complex<f32>);
 declare!(hewn_zgemm, hewn_zgemm_need, f64, Complex<f64>);
+
+/// The file and the numbers that its panel is read into.
+pub type Read<R> = unsafe extern "C" fn(file: *const u8, file_len: usize, numbers: *mut R, numbers_len: usize) -> Head;
+
+/// A panel's numbers and shape, and a place.
+pub type ElementAt<R> = unsafe extern "C" fn(
+    numbers: *const R, numbers_len: usize, rows: u16, columns: u16, row: usize, column: usize,
+) -> Element<R>;
+
+macro_rules! declare_panel {
+    ($read:ident, $element:ident, $real:ty) => {
+        extern "C" {
+            pub fn $read(file: *const u8, file_len: usize, numbers: *mut $real, numbers_len: usize) -> Head;
+            pub fn $element(
+                numbers: *const $real, numbers_len: usize, rows: u16, columns: u16, row: usize, column: usize,
+            ) -> Element<$real>;
+        }
+    };
+}
+
+declare_panel!(hewn_read_f32, hewn_panel_element_f32, f32);
+declare_panel!(hewn_read_f64, hewn_panel_element_f64, f64);

@@ -1,6 +1,6 @@
-//! General matrix multiplication, C ← α A B + β C, for f32, f64 and complex matrices, from a library that is proved in
-//! Rattle. Its bits are those of the crate matrixmultiply 0.3.11 where that fuses nothing, which is tested, as this crate
-//! around the library is. For x86-64 Linux.
+//! General matrix multiplication, C ← α A B + β C, for f32, f64 and complex matrices, and panels of numbers read from files,
+//! from a library that is proved in Rattle. The bits of a product are those of the crate matrixmultiply 0.3.11 where that
+//! fuses nothing, which is tested, as this crate around the library is. For x86-64 Linux.
 //!
 //! Any sizes, strides, bases and slices get an answer: the call is done, or it is refused with the first [`Refusal`] that
 //! applies, and then nothing has been stored in C or in the pack buffer. No call panics.
@@ -58,6 +58,40 @@
 //! # assert_eq!((z[1].re, z[1].im), (5.0, 4.0));
 //! ```
 //!
+//! # Panels from files
+//!
+//! [`read_panel_f32`] and [`read_panel_f64`] read a panel file into numbers that the caller lends. All numbers of a file
+//! are little-endian:
+//!
+//! | bytes | |
+//! |---|---|
+//! | 0 to 2 | the mark `IVP` |
+//! | 3 and 4 | the version, 1 |
+//! | 5 | the kind: 1 for f32, 2 for f64 |
+//! | 6 and 7 | rows |
+//! | 8 and 9 | columns |
+//! | from 10 on | the elements, row by row, and nothing more |
+//!
+//! A file whose head is not right, that is too short or too long, or not of the kind asked for is refused, and the numbers
+//! are as they were. It has no checksum: a byte that was changed among the elements is not noticed. A [`Panel`] holds
+//! numbers together with their shape:
+//!
+//! ```
+//! use hewnspandrel::{read_panel_f64, Operand, Panel, Workspace};
+//! # let file = [b"IVP\x01\0\x02\x01\0\x02\0".as_slice(), &3.0f64.to_le_bytes(), &4.0f64.to_le_bytes()].concat();
+//! let mut numbers = vec![0.0; file.len() / 8];
+//! let shape = read_panel_f64(&file, &mut numbers)?.shape;
+//! let row = Panel { numbers: &numbers, rows: shape.rows, columns: shape.columns };
+//! assert_eq!((row.element(0, 0), row.element(0, 1)), (Ok(3.0), Ok(4.0)));
+//! // the panel times its transpose
+//! let (m, k, l) = (shape.rows.into(), shape.columns.into(), Operand::row_major(shape.columns.into()));
+//! let mut squares = vec![0.0; m * m];
+//! Workspace::<f64>::new()
+//!     .dgemm(m, k, m, 1.0, &numbers, l, &numbers, l.transposed(), 0.0, &mut squares, Operand::row_major(m))?;
+//! assert_eq!(squares, [25.0]);
+//! # Ok::<(), hewnspandrel::Refusal>(())
+//! ```
+//!
 //! # What a mutable slice rules out
 //!
 //! C and the pack buffer are `&mut`, so nothing that a call reads can overlap them:
@@ -80,6 +114,8 @@
 mod calls;
 mod foreign;
 mod operand;
+mod panel;
+mod real;
 mod refusal;
 mod workspace;
 
@@ -88,8 +124,10 @@ pub use calls::{dgemm, dgemm_need, DGEMM_MAX_NEED};
 pub use calls::{sgemm, sgemm_need, SGEMM_MAX_NEED};
 pub use calls::{zgemm, zgemm_need, ZGEMM_MAX_NEED};
 pub use operand::Operand;
+pub use panel::{read_panel_f32, read_panel_f64, Header, Panel, Shape};
+pub use real::Real;
 pub use refusal::Refusal;
-pub use workspace::{Real, Workspace};
+pub use workspace::Workspace;
 
 /// The README's examples are compiled and run with the others.
 #[cfg(doctest)]

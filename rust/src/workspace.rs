@@ -1,25 +1,5 @@
-use crate::{calls, Operand, Refusal};
+use crate::{calls, Operand, Real, Refusal};
 use std::fmt;
-
-mod sealed {
-    pub trait Sealed {}
-    impl Sealed for f32 {}
-    impl Sealed for f64 {}
-}
-
-/// f32 or f64: what the slices of a call hold.
-pub trait Real: sealed::Sealed + Copy {
-    #[doc(hidden)]
-    const ZERO: Self;
-}
-
-impl Real for f32 {
-    const ZERO: f32 = 0.0;
-}
-
-impl Real for f64 {
-    const ZERO: f64 = 0.0;
-}
 
 /// A pack buffer that is kept from call to call. It grows to the need of a call that would be done but for its length, and
 /// to no more; it never shrinks. A refused call leaves it as it is.

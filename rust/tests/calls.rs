@@ -36,8 +36,15 @@ fn numbers_and_words() {
         Refusal::OutsideA,
         Refusal::OutsideB,
         Refusal::PackShort,
+        Refusal::FileShort,
+        Refusal::WrongMark,
+        Refusal::UnknownVersion,
+        Refusal::WrongKind,
+        Refusal::WrongLength,
+        Refusal::NoRoom,
+        Refusal::OutsidePanel,
     ];
-    assert_eq!(all.map(Refusal::number), [1, 2, 3, 4, 5, 6, 7]);
+    assert_eq!(all.map(Refusal::number), [1, 2, 3, 4, 5, 6, 7, 21, 22, 23, 24, 25, 26, 30]);
     let words = [
         "m, k or n is above 65,536",
         "a stride of A, B or C is above 2,147,483,648 in magnitude",
@@ -46,6 +53,13 @@ fn numbers_and_words() {
         "a place of A is outside A's slice",
         "a place of B is outside B's slice",
         "the pack buffer is shorter than the need",
+        "the file has fewer than ten bytes",
+        "the file does not begin with the mark IVP",
+        "the file's version is not known",
+        "the file's kind is not the one asked for",
+        "the file's length is not what its rows and columns say",
+        "the destination is shorter than the panel",
+        "the place is outside the panel's shape or beyond its numbers",
     ];
     assert_eq!(all.map(|refusal| refusal.to_string()), words);
     let error: Box<dyn std::error::Error + Send + Sync> = Box::new(Refusal::PackShort);

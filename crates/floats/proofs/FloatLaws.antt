@@ -4,7 +4,7 @@ use mathlib.Core.Bool.{Bool, true, false, not, cond}
 use Prim.Native.Nat.{ℕ, _*_, _%_, _≤_, _<_}
 use borrow.Author.Tests.{lt-ltb, le-ltb, eqb-true, eqb-false}
 use lib.Dec.{T, eqb}
-use lib.Ieee.{Float, nan, inf, fin, Format, binary32, binary64, hid, ones, top, ne, div, fits, isNan, nanBits, ofBits, toBits}
+use lib.Ieee.{Float, nan, inf, fin, Format, hid, ones, top, ne, fits, isNan, nanBits, ofBits, toBits}
 use lib.Ieee.Bits.{nanBits-is, nanBits-above, ofBits-toBits}
 use lib.Ieee.Compare.{differs-from-itself, nan-differs}
 use Rattle.layout.specs.Operands.{Tells}
@@ -26,11 +26,6 @@ same-no-nan (inf s) e = tt
 same-no-nan (fin s m x) e = tt
 
 -- ---- the float of a word
-
-pub zero-by-zero : (f : Format) → div f (ofBits f 0) (ofBits f 0) ≡ nan
-unfolding div ofBits
-zero-by-zero binary32 = refl
-zero-by-zero binary64 = refl
 
 is-nan : (x : Float) → isNan x ≡ true → x ≡ nan
 unfolding isNan

@@ -1,2 +1,3 @@
 pub mod Floats
 pub mod SameDifference
+pub mod NanLaws

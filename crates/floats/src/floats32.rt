@@ -26,7 +26,7 @@ fn narrow(word: u64) -> u32
 }
 
 // The float whose pattern a word is, a NaN where it is none.
-fn float_of(word: u64) -> f32
+pub fn float_of(word: u64) -> f32
     ensures { λ r. ⌜ r ≡ floatOf binary32 word ⌝ }
 {
     if word > LARGEST {

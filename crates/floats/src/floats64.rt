@@ -27,7 +27,7 @@ fn narrow(word: u64) -> u64
 }
 
 // The float whose pattern a word is, a NaN where it is none.
-fn float_of(word: u64) -> f64
+pub fn float_of(word: u64) -> f64
     ensures { λ r. ⌜ r ≡ floatOf binary64 word ⌝ }
 {
     if word > LARGEST {

@@ -4,8 +4,8 @@
 ghost use mathlib.Core.Path.{_≡_};
 
 #[no_mangle]
-pub extern "C" fn hewn_interface_1() -> u64
-    ensures { λ r. ⌜ r ≡ 1 ⌝ }
+pub extern "C" fn hewn_interface_2() -> u64
+    ensures { λ r. ⌜ r ≡ 2 ⌝ }
 {
-    1
+    2
 }

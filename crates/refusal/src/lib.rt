@@ -1,4 +1,4 @@
-// Every way to be refused, by document 01's numbers. No counterpart in the Rust, which trusts its caller.
+// Every way to be refused, by the numbers of documents 01 and 02. No counterpart in the Rust, which trusts its caller.
 ghost use mathlib.Core.Path.{_≡_};
 ghost use Rattle.refusal.specs.Numbers.{numberOf};
 
@@ -10,6 +10,13 @@ pub enum Refusal {
     OutsideA,
     OutsideB,
     PackShort,
+    FileShort,
+    WrongMark,
+    UnknownVersion,
+    WrongKind,
+    WrongLength,
+    NoRoom,
+    OutsidePanel,
 }
 
 impl Refusal {
@@ -24,6 +31,13 @@ impl Refusal {
             Refusal::OutsideA => 5,
             Refusal::OutsideB => 6,
             Refusal::PackShort => 7,
+            Refusal::FileShort => 21,
+            Refusal::WrongMark => 22,
+            Refusal::UnknownVersion => 23,
+            Refusal::WrongKind => 24,
+            Refusal::WrongLength => 25,
+            Refusal::NoRoom => 26,
+            Refusal::OutsidePanel => 30,
         }
     }
 }

@@ -161,3 +161,17 @@ module _ {A : Type 0} (z : A) (n : ℕ) (g : ℕ → A) (old : List A) where
 
   pub filled-all : (i : ℕ) {l : List A} → Filled z n i g old l → n ≤ i → l ≡ tab n g
   filled-all i f h = filled-rest i f (λ k u v. let o : ⊥ = omega arith in absurd o)
+
+  -- and where it ends before the array does, the rest is as it was
+  pub filled-first : (i : ℕ) {l : List A} → Filled z n i g old l → length old ≡ n → l ≡ splice old 0 (tab i g)
+  filled-first i {l} f e =
+      let long : length (tab i g) ≡ i = length-tab i g in
+      let fits : 0 + length (tab i g) ≤ length old = omega (arith, f .upto) in
+      ext-getD z l (splice old 0 (tab i g)) (f .long ∙ sym e ∙ sym (length-splice old 0 (tab i g) fits)) (λ k m. at-k k (decLt k i))
+    where
+      at-k : (k : ℕ) → Dec (k < i) → getD l k z ≡ getD (splice old 0 (tab i g)) k z
+      at-k k (yes m) =
+          f .made k m ∙ sym (getD-tab i g k z m)
+          ∙ sym (getD-in old 0 (tab i g) k z (omega arith) (omega (arith, length-tab i g)))
+          ∙ ap (λ (j : ℕ). getD (splice old 0 (tab i g)) j z) (zero-add k)
+      at-k k (no m) = f .left k (omega arith) ∙ sym (getD-after old 0 (tab i g) k z (omega arith) (omega (arith, length-tab i g)))

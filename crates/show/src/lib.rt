@@ -1,5 +1,6 @@
-// How the programs write: text, whole numbers, and floats by their bits or with two decimals.
+// How the programs write: text, whole numbers, floats by their bits or with two decimals, and what a refusal means.
 use libc::STDOUT_FILENO;
+use refusal::Refusal;
 
 pub fn text(s: &[u8]) {
     let _written = io::write_all(STDOUT_FILENO, s);
@@ -57,4 +58,34 @@ pub fn hundredths(x: f64) {
     text(b".");
     whole(n / 10 % 10);
     whole(n % 10);
+}
+
+// What a refusal means, in the words of the C header.
+fn meaning(x: Refusal) {
+    match x {
+        Refusal::TooLarge => text(b"m, k or n is above 65,536"),
+        Refusal::TooFar => text(b"a stride of A, B or C is above 2,147,483,648 in magnitude"),
+        Refusal::OutsideC => text(b"a place of C is outside C's slice"),
+        Refusal::CollidesC => text(b"two different places of C are the same element"),
+        Refusal::OutsideA => text(b"a place of A is outside A's slice"),
+        Refusal::OutsideB => text(b"a place of B is outside B's slice"),
+        Refusal::PackShort => text(b"the pack buffer is shorter than the need"),
+        Refusal::FileShort => text(b"the file has fewer than ten bytes"),
+        Refusal::WrongMark => text(b"the file does not begin with the mark IVP"),
+        Refusal::UnknownVersion => text(b"the file's version is not known"),
+        Refusal::WrongKind => text(b"the file's kind is not the one asked for"),
+        Refusal::WrongLength => text(b"the file's length is not what its rows and columns say"),
+        Refusal::NoRoom => text(b"the destination is shorter than the panel"),
+        Refusal::OutsidePanel => text(
+            b"the place is outside the panel's shape or beyond its numbers",
+        ),
+    }
+}
+
+// A refusal by its number, and what it means.
+pub fn refusal(x: Refusal) {
+    text(b"refused with ");
+    whole(x.number());
+    text(b": ");
+    meaning(x);
 }

@@ -1,6 +1,6 @@
-// Bytes as words, eight bytes each, the lowest first; a word by its index, the words behind some, a word as a signed number.
+// Bytes as numbers, the lowest first; as words, eight bytes each; a word by its index, the words behind some, a word as a signed number.
 ghost use mathlib.Core.Path.{_≡_};
-ghost use Prim.Native.Nat.{_<_, _^_};
+ghost use Prim.Native.Nat.{_≤_, _<_, _^_};
 ghost use lib.ListN.{length, getD, drop};
 ghost use mir.Syntax.{w64};
 ghost use mir.Val.{toZ};
@@ -17,13 +17,13 @@ fn byte_at(bytes: &[u8], i: usize) -> u64
     0
 }
 
-// The number that eight bytes from an index on make, read from the highest down.
-fn eight_bytes(bytes: &[u8], first: usize) -> u64
-    requires { ⌜ first < 2 ^ 63 ⌝ }
-    ensures { λ r. ⌜ r ≡ numberAt 8 (now (bytes .entry)) first ⌝ }
+// The number that `width` bytes make from an index on, read from the highest down.
+pub fn number_at(bytes: &[u8], width: usize, first: usize) -> u64
+    requires { ⌜ (width ≤ 8) × (first < 2 ^ 63) ⌝ }
+    ensures { λ r. ⌜ (r ≡ numberAt width (now (bytes .entry)) first) × (r < 256 ^ width) ⌝ }
 {
     let mut number = 0;
-    let mut left = 8;
+    let mut left = width;
     while left > 0 {
         left -= 1;
         let byte = byte_at(bytes, first + left);
@@ -38,7 +38,7 @@ pub fn from_bytes(bytes: &[u8], words: &mut [u64])
 {
     let mut i = 0;
     while i < words.len() {
-        words[i] = eight_bytes(bytes, 8 * i);
+        words[i] = number_at(bytes, 8, 8 * i);
         i += 1;
     }
 }

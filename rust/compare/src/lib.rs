@@ -1,4 +1,5 @@
-//! Hewnspandrel held against the crate matrixmultiply 0.3.11 (the oracle) and against document 01 written out once more.
+//! Hewnspandrel held against the crate matrixmultiply 0.3.11 (the oracle) and against documents 01 and 02 written out once
+//! more.
 
 #[cfg(not(all(target_arch = "x86_64", target_os = "linux")))]
 compile_error!("the target of this build is not x86-64 Linux, the only one that the proved library is for");
@@ -10,6 +11,7 @@ pub mod check;
 pub mod kind;
 pub mod made;
 pub mod model;
+pub mod panel;
 pub mod plain;
 pub mod random;
 pub mod statement;

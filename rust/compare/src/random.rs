@@ -2,6 +2,11 @@
 
 use crate::kind::Real;
 
+/// A number that the caller of a test may set: HEWNSPANDREL_CALLS or HEWNSPANDREL_SEED.
+pub fn setting(name: &str, otherwise: u64) -> u64 {
+    std::env::var(name).map_or(otherwise, |v| v.parse().unwrap_or_else(|_| panic!("{name} is no number: {v}")))
+}
+
 pub struct Random(u64);
 
 impl Random {

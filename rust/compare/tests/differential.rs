@@ -7,13 +7,9 @@ use compare::check::{check, check_c, check_pack};
 use compare::kind::{Call, Kind, Real, C, D, S, Z};
 use compare::made::{sizes, Lent, Made};
 use compare::model;
-use compare::random::Random;
+use compare::random::{setting, Random};
 use compare::statement::{answer, conditions, need};
 use hewnspandrel::Operand;
-
-fn setting(name: &str, otherwise: u64) -> u64 {
-    std::env::var(name).map_or(otherwise, |v| v.parse().unwrap_or_else(|_| panic!("{name} is no number: {v}")))
-}
 
 /// What was met on the way, so that a run can tell that it met everything.
 #[derive(Default)]

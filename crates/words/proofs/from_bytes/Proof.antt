@@ -18,7 +18,7 @@ abbrev μ-loop : tie.MeasureT-loop
 μ-loop bytes words₀ i₀ words i = length words₀ - i
 
 loop-again : tie.Need-loop-again Inv-loop μ-loop
-loop-again c = filled-more 0 _ _ _ _ (c .before .before .loop .inv) (omega arith) (c .eight-bytes .ensures)
+loop-again c = filled-more 0 _ _ _ _ (c .before .before .loop .inv) (omega arith) (c .number-at .ensures .0)
 
 returns : tie.Need-returns Inv-loop μ-loop
 returns c = filled-all 0 _ _ _ _ (c .before .loop .inv) (omega arith)

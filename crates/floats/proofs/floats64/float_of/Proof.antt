@@ -7,7 +7,8 @@ use Prim.Native.Nat.{ℕ}
 use native.Mathlib.Omega.{arith}
 use lib.Dec.{T}
 use lib.Ieee.{binary64, ofBits, nanBits}
-use Rattle.floats.proofs.FloatLaws.{pattern-no-nan, zero-by-zero, large-float, nan-float, pattern-float}
+use Rattle.floats.specs.NanLaws.{zero-by-zero}
+use Rattle.floats.proofs.FloatLaws.{pattern-no-nan, large-float, nan-float, pattern-float}
 use Rattle.floats.proofs.floats64.float_of.Statement.{statement}
 use Rattle.floats.proofs.floats64.float_of.Tie as tie
 
