@@ -15,9 +15,9 @@ use Rattle.refusal.specs.Numbers.{numberOf}
 use Rattle.refusal.specs.NumberLaws.{refusal-some}
 use Rattle.refusal.specs.Order.{Says, done}
 use Rattle.refusal.specs.OrderLaws.{One, Stage, refuses, one-done, first-stage, then-stage, first-passed}
+use Rattle.words.specs.Words.{numberAt}
 use Rattle.layout.specs.Operands.{Tells}
 use Rattle.layout.specs.Tests.{not-above, tells-by, tells-false}
-use Rattle.words.specs.Words.{numberAt}
 use Rattle.panel.specs.File.{mark, versionIn, kindIn, formatOfByte, widthOf, headLength, elementsIn, fileLength}
 use Rattle.panel.specs.File.{HeadThen, BodyThen}
 

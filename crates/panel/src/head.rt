@@ -2,9 +2,9 @@
 ghost use mathlib.Core.Path.{_≡_};
 ghost use Prim.Native.Nat.{_≤_, _<_, _^_};
 ghost use lib.ListN.{length, take};
+ghost use Rattle.refusal.specs.Order.{done};
 ghost use Rattle.words.specs.Words.{numberAt};
 ghost use Rattle.layout.specs.Operands.{Tells};
-ghost use Rattle.refusal.specs.Order.{done};
 ghost use Rattle.panel.specs.File.{mark, formatOfByte, widthOf, headLength, headerOf, elementsOf, HeadThen, BodyThen};
 ghost use Rattle.panel.specs.Heads.{HeaderOr};
 use crate::file::Header;
@@ -16,12 +16,14 @@ use words::number_at;
 // How many bytes stand before the elements.
 pub const HEAD: usize = 10;
 
+// A row or column number as a size; the bound comes with it.
 fn wide(n: u16) -> usize
     ensures { λ r. ⌜ (r ≡ n) × (r < 65536) ⌝ }
 {
     n as usize
 }
 
+// How many elements a shape has.
 pub fn elements_of(shape: Shape) -> usize
     ensures { λ r. ⌜ (r ≡ elementsOf shape) × (r < 2 ^ 32) ⌝ }
 {
