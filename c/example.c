@@ -29,6 +29,15 @@ int main(void) {
     answer = hewn_dgemm(2, 3, 2, 1.0, a, 5, la, b, 6, lb, 0.0, c, 4, lc, pack, need.elements);
     printf("%s: %g %g %g %g\n", hewn_answer_text(answer), c[0], c[1], c[2], c[3]);
     if (answer != HEWN_OUTSIDE_A || c[0] != 4 || c[1] != 5 || c[2] != 10 || c[3] != 11) return 1;
+
+    /* the second row of A alone: its row stride, 2^40 here, is not stepped along; two rows of it are refused */
+    hewn_operand row = {3, (ptrdiff_t)1 << 40, 1};
+    answer = hewn_dgemm(1, 3, 2, 1.0, a, 6, row, b, 6, lb, 0.0, c, 4, lc, pack, need.elements);
+    printf("%s: %g %g\n", hewn_answer_text(answer), c[0], c[1]);
+    if (answer != HEWN_DONE || c[0] != 10 || c[1] != 11) return 1;
+    answer = hewn_dgemm(2, 3, 2, 1.0, a, 6, row, b, 6, lb, 0.0, c, 4, lc, pack, need.elements);
+    printf("%s\n", hewn_answer_text(answer));
+    if (answer != HEWN_TOO_FAR) return 1;
     free(pack);
 
     /* complex: (1 + 2i)(3 + 4i) times i; A and B may be one slice */
@@ -57,7 +66,7 @@ int main(void) {
     static const char *const words[32] = {
         [0] = "done",
         [1] = "m, k or n is above 65,536",
-        [2] = "a stride of A, B or C is above 2,147,483,648 in magnitude",
+        [2] = "a stride of A, B or C along an axis of two or more entries is above 2,147,483,648 in magnitude",
         [3] = "a place of C is outside C's slice",
         [4] = "two different places of C are the same element",
         [5] = "a place of A is outside A's slice",

@@ -103,7 +103,6 @@ static void fault(const kind *x, setting s, uint64_t expected) {
     s.expected = expected;
     switch (expected) {
     case HEWN_TOO_LARGE: s.k = 65537; break;
-    case HEWN_TOO_FAR: s.operands[B].cs = -2147483649; break;
     case HEWN_OUTSIDE_C: if (empty) return; s.lengths[C] -= x->width; break;
     case HEWN_COLLIDES_C:
         if (empty || (m == 1 && n == 1)) return;
@@ -116,7 +115,20 @@ static void fault(const kind *x, setting s, uint64_t expected) {
     x->run(&s);
 }
 
+/* The call with each stride in turn too far: refused along two or more entries, else done. */
+static void too_far(const kind *x, setting s, ptrdiff_t stride) {
+    const size_t entries[3][2] = {{s.m, s.k}, {s.k, s.n}, {s.m, s.n}};
+    for (int which = A; which <= C; which++)
+        for (int column = 0; column < 2; column++) {
+            setting changed = s;
+            *(column ? &changed.operands[which].cs : &changed.operands[which].rs) = stride;
+            changed.expected = entries[which][column] >= 2 ? HEWN_TOO_FAR : HEWN_DONE;
+            x->run(&changed);
+        }
+}
+
 static void shape(const kind *x, size_t m, size_t k, size_t n) {
+    static const ptrdiff_t far[] = {2147483649, -2147483649, (ptrdiff_t)1 << 40, PTRDIFF_MAX, PTRDIFF_MIN};
     for (int ways = 0; ways < 16; ways++) {
         int wa = ways / 4, wb = ways % 4;
         setting s = {x->name, m, k, n, {laid(wa, m, k), laid(wb, k, n), laid((wa + wb) % 4, m, n)}, {0}, 0, ways % 2, HEWN_DONE};
@@ -127,7 +139,9 @@ static void shape(const kind *x, size_t m, size_t k, size_t n) {
         s.need = x->need(m, k, n).elements * x->width;
         s.lengths[PACK] = s.need + (ways % 5 == 0 ? 3 : 0);
         x->run(&s);
-        for (uint64_t expected = HEWN_TOO_LARGE; expected <= HEWN_PACK_SHORT; expected++) fault(x, s, expected);
+        too_far(x, s, far[ways % 5]);
+        fault(x, s, HEWN_TOO_LARGE);
+        for (uint64_t expected = HEWN_OUTSIDE_C; expected <= HEWN_PACK_SHORT; expected++) fault(x, s, expected);
     }
 }
 

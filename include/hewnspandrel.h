@@ -13,12 +13,15 @@
    Answers of the four calls. The first that applies is given, and a refused call has stored nothing, in C or in pack:
      0  HEWN_DONE         done
      1  HEWN_TOO_LARGE    m, k or n is above 65,536
-     2  HEWN_TOO_FAR      one of the six strides is above 2,147,483,648 in magnitude
+     2  HEWN_TOO_FAR      a stride of A, B or C along an axis of two or more entries is above 2,147,483,648 in magnitude
      3  HEWN_OUTSIDE_C    some place of C is outside C's slice
      4  HEWN_COLLIDES_C   two different places of C are the same element
      5  HEWN_OUTSIDE_A    some place of A is outside A's slice
      6  HEWN_OUTSIDE_B    some place of B is outside B's slice
      7  HEWN_PACK_SHORT   the pack buffer is shorter than the need
+   In 2 the entries are m for A's and C's row strides, k for A's column and B's row stride, n for B's and C's column
+   strides. The sizes alone decide: with m = 0 and k = 2, A's column stride is judged, though A has no element. A stride
+   along one entry or none is not stepped along, and may be anything.
    After 1 and 2, a call with m or n zero is done and nothing more is looked at. After 4, a call with k zero makes C
    beta C and is done; A, B and the pack buffer are not looked at. Where beta is zero, old C is ignored.
 
@@ -62,7 +65,7 @@ extern "C" {
 
 /* The version of this interface. A program that includes this header links only with an archive of the same version: each
    file that includes it refers to the archive's function of that name. */
-#define HEWN_INTERFACE 2
+#define HEWN_INTERFACE 3
 
 #define HEWN_PASTE(x, y) x##y
 #define HEWN_NAMED(x, y) HEWN_PASTE(x, y)
@@ -118,7 +121,7 @@ static inline const char *hewn_answer_text(uint64_t answer) {
     switch (answer) {
     case HEWN_DONE: return "done";
     case HEWN_TOO_LARGE: return "m, k or n is above 65,536";
-    case HEWN_TOO_FAR: return "a stride of A, B or C is above 2,147,483,648 in magnitude";
+    case HEWN_TOO_FAR: return "a stride of A, B or C along an axis of two or more entries is above 2,147,483,648 in magnitude";
     case HEWN_OUTSIDE_C: return "a place of C is outside C's slice";
     case HEWN_COLLIDES_C: return "two different places of C are the same element";
     case HEWN_OUTSIDE_A: return "a place of A is outside A's slice";

@@ -14,7 +14,7 @@ use std::{env, io};
 const LIBRARY: &str = "libhewnspandrel.a";
 
 /// The name that bears the interface's version; src/foreign.rs has the linker look for it too.
-const INTERFACE: &str = "hewn_interface_2";
+const INTERFACE: &str = "hewn_interface_3";
 
 fn main() {
     println!("cargo:rerun-if-env-changed=HEWNSPANDREL_LIB");

@@ -4,7 +4,7 @@ use crate::Operand;
 
 extern "C" {
     /// Named after the interface's version, so that an archive with another one does not link with this crate.
-    fn hewn_interface_2() -> u64;
+    fn hewn_interface_3() -> u64;
 }
 
 /// Has the linker look for the interface's version. Each function of this crate calls it before it calls the archive: no
@@ -12,7 +12,7 @@ extern "C" {
 #[inline]
 pub fn same_interface() {
     // SAFETY: numbers only.
-    unsafe { hewn_interface_2() };
+    unsafe { hewn_interface_3() };
 }
 
 /// A complex number, by value.

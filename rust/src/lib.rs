@@ -12,6 +12,23 @@
 //! element is two neighbouring reals, real part first; bases and strides count whole elements, and a lone last real is
 //! never touched. The sizes come in matrixmultiply's order, m, k, n, and not in that of BLAS.
 //!
+//! A stride is stepped along where its axis has two or more entries: m for A's and C's row strides, k for A's column
+//! and B's row stride, n for B's and C's column strides. There its magnitude may be 2,147,483,648 at most. The sizes alone
+//! decide: with m = 0 and k = 2, A's column stride is judged, though A has no element. Along one entry or none a stride may
+//! be any `isize`, as array tools give them to a panel of one row:
+//!
+//! ```
+//! use hewnspandrel::{Operand, Refusal, Workspace};
+//! let (a, b, mut c) = ([1.0, 2.0], [3.0, 4.0], [0.0]);
+//! let (row, column) = (Operand { base: 0, rs: 1 << 40, cs: 1 }, Operand::row_major(1));
+//! let mut workspace = Workspace::<f64>::new();
+//! workspace.dgemm(1, 2, 1, 1.0, &a, row, &b, column, 0.0, &mut c, row)?;
+//! assert_eq!(c, [11.0]);
+//! // two rows of it
+//! assert_eq!(workspace.dgemm(2, 2, 1, 1.0, &a, row, &b, column, 0.0, &mut c, row), Err(Refusal::TooFar));
+//! # Ok::<(), hewnspandrel::Refusal>(())
+//! ```
+//!
 //! # The pack buffer
 //!
 //! The caller lends the memory that A and B are packed into, at least as many elements as [`sgemm_need`] and its siblings

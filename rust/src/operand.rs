@@ -1,5 +1,6 @@
 /// Where place (0,0) of a matrix lies in its slice, and the two strides, in whole elements. Place (i,j) is the element
-/// base + i rs + j cs, counted in whole numbers: nothing wraps.
+/// base + i rs + j cs, counted in whole numbers: nothing wraps. A stride along fewer than two entries is not stepped
+/// along, and may be any `isize`.
 ///
 /// ```
 /// use hewnspandrel::Operand;
@@ -26,8 +27,9 @@ pub struct Operand {
 impl Operand {
     /// A matrix of so many columns, row by row without gaps, from its slice's first element on.
     ///
-    /// A number of columns that is no `isize` gives the row stride `isize::MAX`. That is above 2,147,483,648 too, so it is
-    /// refused as the number itself would be, with [`Refusal::TooFar`](crate::Refusal::TooFar).
+    /// A number of columns that is no `isize` gives the row stride `isize::MAX`. With two or more rows that is refused
+    /// as the number itself would be, with [`Refusal::TooFar`](crate::Refusal::TooFar). With one row nobody steps along
+    /// it.
     #[must_use]
     pub const fn row_major(columns: usize) -> Operand {
         Operand { base: 0, rs: stride(columns), cs: 1 }
@@ -35,7 +37,8 @@ impl Operand {
 
     /// A matrix of so many rows, column by column without gaps, from its slice's first element on.
     ///
-    /// A number of rows that is no `isize` gives the column stride `isize::MAX`, as with [`Operand::row_major`].
+    /// A number of rows that is no `isize` gives the column stride `isize::MAX`, which is refused with two or more
+    /// columns, as with [`Operand::row_major`].
     #[must_use]
     pub const fn column_major(rows: usize) -> Operand {
         Operand { base: 0, rs: 1, cs: stride(rows) }

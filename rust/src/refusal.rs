@@ -56,7 +56,7 @@ refusals! {
     /// }
     /// ```
     1 TooLarge "m, k or n is above 65,536"
-    2 TooFar "a stride of A, B or C is above 2,147,483,648 in magnitude"
+    2 TooFar "a stride of A, B or C along an axis of two or more entries is above 2,147,483,648 in magnitude"
     3 OutsideC "a place of C is outside C's slice"
     4 CollidesC "two different places of C are the same element"
     5 OutsideA "a place of A is outside A's slice"

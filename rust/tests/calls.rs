@@ -47,7 +47,7 @@ fn numbers_and_words() {
     assert_eq!(all.map(Refusal::number), [1, 2, 3, 4, 5, 6, 7, 21, 22, 23, 24, 25, 26, 30]);
     let words = [
         "m, k or n is above 65,536",
-        "a stride of A, B or C is above 2,147,483,648 in magnitude",
+        "a stride of A, B or C along an axis of two or more entries is above 2,147,483,648 in magnitude",
         "a place of C is outside C's slice",
         "two different places of C are the same element",
         "a place of A is outside A's slice",
@@ -75,6 +75,24 @@ fn empty_slices() {
     let nowhere = Operand { base: usize::MAX, ..ROWS };
     assert_eq!(dgemm(1, 0, 1, 1.0, &[], nowhere, &[], nowhere, 2.0, &mut c, ROWS, &mut []), Ok(()));
     assert_eq!(c, [6.0]);
+}
+
+/// A stride is judged along two or more entries only: rows, depth steps, columns.
+#[test]
+fn strides_nobody_steps_along() {
+    let (row, column) = (Operand { rs: 1 << 40, ..ROWS }, Operand { cs: isize::MIN, ..ROWS });
+    let (a, b, mut pack) = ([2.0; 6], [3.0; 6], vec![0.0; dgemm_need(2, 2, 2).unwrap()]);
+    let mut call = |m, k, n, la, lb, c: &mut [f64], lc| dgemm(m, k, n, 1.0, &a, la, &b, lb, 0.0, c, lc, &mut pack);
+    let mut c = [0.0; 6];
+    assert_eq!(call(2, 1, 2, column, row, &mut c, Operand { rs: 2, ..ROWS }), Ok(()));
+    assert_eq!(c, [6.0, 6.0, 6.0, 6.0, 0.0, 0.0]);
+    assert_eq!(call(1, 2, 2, row, ROWS, &mut c, row), Ok(()));
+    assert_eq!(c, [12.0, 12.0, 6.0, 6.0, 0.0, 0.0]);
+    assert_eq!(call(2, 2, 1, ROWS, column, &mut c[1..], column), Ok(()));
+    assert_eq!(c, [12.0, 12.0, 6.0, 6.0, 0.0, 12.0]);
+    assert_eq!(call(2, 1, 1, row, ROWS, &mut c, ROWS), Err(Refusal::TooFar));
+    assert_eq!(call(0, 2, 0, column, ROWS, &mut c, ROWS), Err(Refusal::TooFar));
+    assert_eq!(call(1, 0, 2, row, column, &mut c, row), Err(Refusal::TooFar));
 }
 
 #[test]

@@ -26,9 +26,10 @@ fn a_stride_never_wraps() {
     for size in [most as usize, most as usize + 1, usize::MAX] {
         assert_eq!(Operand::row_major(size), o(0, most, 1));
         assert_eq!(Operand::column_major(size), o(0, 1, most));
-        // and is refused as the size itself would be
-        let answer = sgemm(1, 1, 1, 1.0, &[1.0], Operand::row_major(size), &[1.0], ROWS, 0.0, &mut [0.0], ROWS, &mut [0.0; 16]);
-        assert_eq!(answer, Err(Refusal::TooFar));
+        // two rows are refused as with the size itself; of one nobody takes the step
+        let la = Operand::row_major(size);
+        let call = |m| sgemm(m, 1, 1, 1.0, &[1.0; 2], la, &[1.0], ROWS, 0.0, &mut [0.0; 8], ROWS, &mut [0.0; 16]);
+        assert_eq!((call(2), call(1)), (Err(Refusal::TooFar), Ok(())));
     }
     assert_eq!(Operand::row_major(most as usize - 1), o(0, most - 1, 1));
 }

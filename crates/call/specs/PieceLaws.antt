@@ -1,7 +1,7 @@
 -- Pieces of an accepted call: each stage lets a piece pass that lets the whole pass, and together the pieces do the call's work.
 -- Assumes nothing.
 use Prim.Native.Nat.{ℕ, suc, _+_, _≤_, _<_}
-use mathlib.Core.{Path._≡_, Path.refl, Path.transport, Logic.inr, List.List}
+use mathlib.Core.{Path._≡_, Path.refl, Path.transport, Logic.inl, Logic.inr, List.List}
 use native.Mathlib.Omega.{arith}
 use lib.{ListN.length, Ieee.Float}
 use Rattle.refusal.specs.Order.{done}
@@ -13,10 +13,10 @@ use Rattle.element.specs.KindLaws.{lawful}
 use Rattle.element.specs.{declared.kind.Kind.Kind, Kinds.arithOf, Kinds.viewOf, Kinds.tilingOf, Kinds.depthChunk}
 use Rattle.layout.specs.{declared.operand.Operand.Operand, Place.indexOf, Place.basedAt, NeedLaws.need-mono, NeedLaws.kind-sides}
 use Rattle.layout.specs.Tests.{outside-or-inside, meet-or-apart, none-large}
-use Rattle.layout.specs.BasedLaws.{based-inside, based-apart, inside-index, inside-apart}
+use Rattle.layout.specs.BasedLaws.{based-inside, based-apart, based-long, inside-index, inside-apart}
 use Rattle.call.specs.declared.judge.{Matrices.Matrices, Lengths.Lengths}
 use Rattle.call.specs.Call.{Call, chunk, rowOf, columnOf, Does}
-use Rattle.call.specs.Verdict.{SizesThen, InsideThen, CThen, ABThen, RoomThen, Judged, Verdict}
+use Rattle.call.specs.Verdict.{Far, SizesThen, InsideThen, CThen, ABThen, RoomThen, Judged, Verdict}
 use Rattle.call.specs.{Outcome.Idle, Pieces.pieceOver, Pieces.pieceCall}
 use Rattle.call.specs.StageLaws.{InsideB, MeetC, inside-a-stage, inside-c-stage, judged-room, done-sizes, done-c, done-ab-room}
 use Rattle.call.specs.DoneLaws.{busy-sizes, none-empty, sizes-small, strides-short, inside-done, inside-c, all-c, apart-c}
@@ -35,9 +35,16 @@ inside-piece kind m n o floats x some v r c h w fr fc sr sc =
     )
 
 module _ (q : Matrices) (p : Piece) (fits : Fits (q .m) (q .k) (q .n) p) where
+  -- a stride that is judged in a piece is judged in the whole call
+  far-piece : Far (pieceOver q p) → Far q
+  far-piece (inl l) = inl (based-long (q .a) (p .row) (p .depth) (omega arith) (omega arith) l)
+  far-piece (inr (inl l)) = inr (inl (based-long (q .b) (p .depth) (p .column) (omega arith) (omega arith) l))
+  far-piece (inr (inr l)) = inr (inr (based-long (q .c) (p .row) (p .column) (omega arith) (omega arith) l))
+
   sizes-piece : SizesThen q done 0 → SizesThen (pieceOver q p) done 0
   sizes-piece s =
-      inr (let l = sizes-small q s in none-large (omega arith) (omega arith) (omega arith), inr (λ f. strides-short q s f, refl))
+      let l = sizes-small q s in
+      inr (none-large (omega arith) (omega arith) (omega arith), inr (λ f. strides-short q s (far-piece f), refl))
 
   module _ (kind : Kind) (floats : Lengths) where
     c-piece : CThen kind q floats done 0 → CThen kind (pieceOver q p) floats done 0

@@ -12,9 +12,10 @@ use Rattle.call.specs.Call.{Call}
 abbrev pub lengths : List Float → List Float → List Float → Lengths
 lengths A B C = record { a = length A; b = length B; c = length C }
 
--- "one of the six strides"
+-- "one of the six strides", each along its axis: "m for A's and C's row strides, k for A's column and B's row stride, n for B's and C's
+-- column strides"
 abbrev pub Far : Matrices → Type 0
-Far q = Long (q .a) ⊎ (Long (q .b) ⊎ Long (q .c))
+Far q = Long (q .m) (q .k) (q .a) ⊎ (Long (q .k) (q .n) (q .b) ⊎ Long (q .m) (q .n) (q .c))
 
 -- 1 and 2
 abbrev pub SizesThen : Matrices → Says → Says

@@ -1,17 +1,17 @@
-// The refusals in document 01's order, a function a stage. Rust: the debug assertions of `gemm_loop` and `ensure_kernel_params`, gemm.rs.
+// The refusals in document 01's order, a function a stage; the last stage is one test. Rust: the debug assertions of `gemm_loop` and
+// `ensure_kernel_params`, gemm.rs.
 ghost use Rattle.refusal.specs.Numbers.{numberOf};
 ghost use Rattle.refusal.specs.Order.{done};
-ghost use Rattle.element.specs.Kinds.{depthChunk};
 ghost use Rattle.layout.specs.Operands.{Tells, Modest};
-ghost use Rattle.call.specs.Verdict.{Far, SizesThen, InsideThen, CThen, ABThen, RoomThen, Judged};
+ghost use Rattle.call.specs.Verdict.{Far, SizesThen, InsideThen, CThen, ABThen, Judged};
 ghost use Rattle.call.specs.Outcome.{answerNumber};
 use crate::answer::Answer;
 use element::kind::Kind;
 use layout::checks::collides;
 use layout::checks::outside;
 use layout::checks::too_long;
-use layout::need::need;
 use layout::need::too_large;
+use layout::need::too_short;
 use layout::operand::Operand;
 use refusal::Refusal;
 
@@ -32,17 +32,17 @@ pub struct Lengths {
     pub c: usize,
 }
 
-// Is one of the six strides too large?
+// Is one of the six strides too large, of those along two or more entries?
 fn too_far(q: Matrices) -> bool
     ensures { λ r. ⌜ Tells r (Far q) ⌝ }
 {
-    if too_long(q.a) {
+    if too_long(q.m, q.k, q.a) {
         return true;
     }
-    if too_long(q.b) {
+    if too_long(q.k, q.n, q.b) {
         return true;
     }
-    too_long(q.c)
+    too_long(q.m, q.n, q.c)
 }
 
 // Refusals 1 and 2.
@@ -96,16 +96,6 @@ fn a_and_b(kind: Kind, q: Matrices, floats: Lengths) -> Answer
     inside(kind, q.k, q.n, q.b, floats.b, Refusal::OutsideB)
 }
 
-// Refusal 7.
-fn room(kind: Kind, q: Matrices, pack: usize) -> Answer
-    ensures { λ r. ⌜ RoomThen kind depthChunk q pack done (answerNumber r) ⌝ }
-{
-    if kind.elements_in(pack) < need(kind, q.m, q.k, q.n) {
-        return Answer::Refused(Refusal::PackShort);
-    }
-    Answer::Done
-}
-
 // The first refusal that applies, or Done; pack is the length of the pack buffer in floats.
 pub fn judge(kind: Kind, pack: usize, q: Matrices, floats: Lengths) -> Answer
     ensures { λ r. ⌜ Judged kind pack q floats done (answerNumber r) ⌝ }
@@ -131,7 +121,10 @@ pub fn judge(kind: Kind, pack: usize, q: Matrices, floats: Lengths) -> Answer
     if third.number() > 0 {
         return third;
     }
-    room(kind, q, pack)
+    if too_short(kind, q.m, q.k, q.n, kind.elements_in(pack)) {
+        return Answer::Refused(Refusal::PackShort);
+    }
+    Answer::Done
 }
 
 // The same of a call's own sizes and operands.

@@ -1,4 +1,5 @@
-// The examples that are not marked P: places of C, collisions, the need, the largest size; in both real kinds where they name values.
+// The examples that are not marked P: places of C, collisions, the need, the largest size; in both real kinds where they name values. Last,
+// strides that nobody steps along.
 use crate::reals32;
 use crate::reals64;
 use call::answer::Answer;
@@ -111,4 +112,22 @@ pub fn all() {
     collides(65537, 2, near, &mut five);
     need(65536, 65536, 65536);
     need(65537, 0, 0);
+    // one row, as from an array tool; two; and one row with the least isize
+    let far = Operand {
+        base: 0,
+        rs: 1099511627776,
+        cs: 1,
+    };
+    collides(1, 5, far, &mut five);
+    collides(2, 2, far, &mut five);
+    collides(
+        1,
+        5,
+        Operand {
+            base: 4,
+            rs: -9223372036854775808,
+            cs: -1,
+        },
+        &mut five,
+    );
 }

@@ -1,5 +1,6 @@
 -- Matrices that may be read or written: their indexes, and their parts, which are inside, apart and modest with the whole. Assumes nothing.
 use mathlib.Core.Path.{_≡_, refl, sym, ap, _∙_, subst}
+use mathlib.Core.Logic.{inl, inr}
 use mathlib.Core.List.{List}
 use Prim.Native.Nat.{ℕ, _+_, _<_, _≤_}
 use native.Mathlib.Nat.{zero-add, add-mul}
@@ -11,7 +12,7 @@ use Rattle.rules.specs.Stores.{Apart}
 use Rattle.rules.specs.SliceLaws.{agreeing, moved, elsewhere, rows, columns}
 use Rattle.rules.specs.ViewLaws.{Lawful}
 use Rattle.layout.specs.declared.operand.Operand.{Operand}
-use Rattle.layout.specs.Place.{placeOf, Outside, SomeOutside, TwoMeet, indexOf, basedAt}
+use Rattle.layout.specs.Place.{placeOf, Outside, SomeOutside, TwoMeet, Long, indexOf, basedAt}
 use Rattle.layout.specs.Operands.{transposed, Inside, AllInside, NoneMeet, Modest, Reachable, Readable, Writable}
 use Rattle.layout.specs.Splits.{up, dn}
 use Rattle.layout.specs.Signs.{place-bal, ext, inside-is, abs-is}
@@ -70,9 +71,14 @@ pub based-modest : {m n : ℕ} {o : Operand} → Modest m n o → (r c h w : ℕ
 based-modest f r c h w fr fc = record {
   m-max = omega (arith, f .m-max);
   n-max = omega (arith, f .n-max);
-  rs-max = f .rs-max;
-  cs-max = f .cs-max;
+  rs-max = λ two. f .rs-max (omega arith);
+  cs-max = λ two. f .cs-max (omega arith);
 }
+
+-- a part has no more entries along an axis than the whole, so a stride that is judged in a part is judged in the whole
+pub based-long : {m n h w : ℕ} (o : Operand) (r c : ℕ) → h ≤ m → w ≤ n → Long h w (basedAt o r c) → Long m n o
+based-long o r c hm hn (inl l) = inl (omega arith, l .1)
+based-long o r c hm hn (inr l) = inr (omega arith, l .1)
 
 -- ---- of a matrix that is read
 

@@ -1,10 +1,9 @@
--- Signed numbers as what is above 0 and what is below, an operand's strides so split, and the least steps that lead to one place. Only
--- our own tests speak of them. Definitions only.
-use Prim.Native.Nat.{ℕ, suc, _+_, _*_, _≤_}
+-- Signed numbers as what is above 0 and what is below, how far an axis reaches either way, and the least steps that lead to one place.
+-- Only our own tests speak of them. Definitions only.
+use Prim.Native.Nat.{ℕ, suc, _*_, _-_, _≤_}
 use mathlib.Core.Path.{_≡_}
 use lib.IntN.{ℤ, pos, negsuc}
-use Rattle.layout.specs.declared.operand.Operand.{Operand}
-use Rattle.layout.specs.declared.strides.Split.{Split}
+use Rattle.layout.specs.declared.strides.Span.{Span}
 
 -- a number is `up` of it less `dn` of it, and one of the two is 0
 abbrev pub up : ℤ → ℕ
@@ -15,21 +14,12 @@ abbrev pub dn : ℤ → ℕ
 dn (pos n) = 0
 dn (negsuc n) = suc n
 
--- what the code's split is of an operand
-pub record IsSplit (o : Operand) (s : Split) : Type 0 where
-  pub rup : s .rup ≡ up (o .rs)
-  pub rdn : s .rdn ≡ dn (o .rs)
-  pub cup : s .cup ≡ up (o .cs)
-  pub cdn : s .cdn ≡ dn (o .cs)
-  pub r-max : s .rup + s .rdn ≤ 9223372036854775808
-  pub c-max : s .cup + s .cdn ≤ 9223372036854775808
-
--- the magnitudes of the two strides, as the code adds them
-abbrev pub rowSize : Split → ℕ
-rowSize s = s .rup + s .rdn
-
-abbrev pub columnSize : Split → ℕ
-columnSize s = s .cup + s .cdn
+-- what the code's span is of an axis of so many entries
+pub record IsSpan (entries : ℕ) (stride : ℤ) (s : Span) : Type 0 where
+  pub below : s .below ≡ (entries - 1) * dn stride
+  pub above : s .above ≡ (entries - 1) * up stride
+  pub below-max : s .below ≤ 140735340871680
+  pub above-max : s .above ≤ 140735340871680
 
 -- u steps of one stride and v of the other are t times the least steps
 pub record Multiple (a′ b′ u v : ℕ) : Type 0 where

@@ -110,9 +110,11 @@ tells-large {m} {k} {n} hm hk = tells-above (λ h. inr (inr h)) last
     last (inr (inl x)) = omega arith
     last (inr (inr x)) = x
 
-pub not-long : (o : Operand) → (Long o → ⊥) → (natAbs (o .rs) ≤ 2147483648) × (natAbs (o .cs) ≤ 2147483648)
-not-long o f = (not-above 2147483648 (natAbs (o .rs)) (λ h. f (inl h)), not-above 2147483648 (natAbs (o .cs)) (λ h. f (inr h)))
-
 -- what the two tests leave
-pub modest : {m n : ℕ} (o : Operand) → m ≤ 65536 → n ≤ 65536 → (Long o → ⊥) → Modest m n o
-modest o hm hn f = record { m-max = hm; n-max = hn; rs-max = not-long o f .0; cs-max = not-long o f .1 }
+pub modest : {m n : ℕ} (o : Operand) → m ≤ 65536 → n ≤ 65536 → (Long m n o → ⊥) → Modest m n o
+modest o hm hn f = record {
+  m-max = hm;
+  n-max = hn;
+  rs-max = λ two. not-above 2147483648 (natAbs (o .rs)) (λ h. f (inl (two, h)));
+  cs-max = λ two. not-above 2147483648 (natAbs (o .cs)) (λ h. f (inr (two, h)));
+}

@@ -1,22 +1,32 @@
 // The tests of one operand's layout, each exact: a place outside the slice, two places that meet, a stride that is too large. The crate has
 // only debug assertions here.
 ghost use Prim.Native.Nat.{_<_};
-ghost use Rattle.layout.specs.Place.{SomeOutside, TwoMeet, Long};
+ghost use Rattle.layout.specs.Place.{SomeOutside, TwoMeet, LongStride, Long};
 ghost use Rattle.layout.specs.Operands.{Tells, Modest};
 ghost use Rattle.layout.specs.Splits.{LeastSteps};
 use crate::operand::Operand;
+use crate::strides::magnitude;
 use crate::strides::reach;
-use crate::strides::split_strides;
+use crate::strides::span_of;
 
-// Is a stride above 2,147,483,648 in magnitude?
-pub fn too_long(o: Operand) -> bool
-    ensures { λ r. ⌜ Tells r (Long o) ⌝ }
+// Is a stride along so many entries above 2,147,483,648 in magnitude? With fewer than two nobody steps along it, and any isize will do.
+fn long_stride(entries: usize, stride: isize) -> bool
+    ensures { λ r. ⌜ Tells r (LongStride entries stride) ⌝ }
 {
-    let s = split_strides(o);
-    if s.rup + s.rdn > 2147483648 {
+    if entries < 2 {
+        return false;
+    }
+    magnitude(stride) > 2147483648
+}
+
+// The same of either stride.
+pub fn too_long(rows: usize, columns: usize, o: Operand) -> bool
+    ensures { λ r. ⌜ Tells r (Long rows columns o) ⌝ }
+{
+    if long_stride(rows, o.rs) {
         return true;
     }
-    s.cup + s.cdn > 2147483648
+    long_stride(columns, o.cs)
 }
 
 // Is some place (i,j), i below rows, j below columns, outside a slice of len elements? The lowest and the highest corner decide.
@@ -31,9 +41,10 @@ pub fn outside(rows: usize, columns: usize, o: Operand, len: usize) -> bool
         return false;
     }
     let base = o.base;
-    let s = split_strides(o);
-    let low = reach(rows, s.rdn) + reach(columns, s.cdn);
-    let high = reach(rows, s.rup) + reach(columns, s.cup);
+    let down = span_of(rows, o.rs);
+    let across = span_of(columns, o.cs);
+    let low = down.below + across.below;
+    let high = down.above + across.above;
     if base < low {
         return true;
     }
@@ -58,7 +69,8 @@ fn gcd(a: usize, b: usize) -> usize
     x
 }
 
-// Are two different places the same element? With g the strides' greatest common divisor, |cs| / g rows lie where |rs| / g columns do.
+// Are two different places the same element? Not where a row ends before the next one begins, or a column. Else, with g the strides'
+// greatest common divisor, |cs| / g rows lie where |rs| / g columns do.
 pub fn collides(rows: usize, columns: usize, o: Operand) -> bool
     requires { ⌜ Modest rows columns o ⌝ }
     ensures { λ r. ⌜ Tells r (TwoMeet rows columns o) ⌝ }
@@ -69,9 +81,8 @@ pub fn collides(rows: usize, columns: usize, o: Operand) -> bool
     if columns == 0 {
         return false;
     }
-    let s = split_strides(o);
-    let a = s.rup + s.rdn;
-    let b = s.cup + s.cdn;
+    let a = magnitude(o.rs);
+    let b = magnitude(o.cs);
     if rows < 2 {
         if columns < 2 {
             return false;
@@ -86,6 +97,12 @@ pub fn collides(rows: usize, columns: usize, o: Operand) -> bool
     }
     if b == 0 {
         return true;
+    }
+    if reach(columns, b) < a {
+        return false;
+    }
+    if reach(rows, a) < b {
+        return false;
     }
     let g = gcd(a, b);
     if b / g < rows {

@@ -20,7 +20,7 @@ use Rattle.refusal.specs.declared.Refusal.the-variants.{
 
 abbrev pub numberOf : Refusal → ℕ
 numberOf TooLarge = 1  -- "m, k or n is above 65,536"
-numberOf TooFar = 2  -- a stride "is above 2,147,483,648 in magnitude"
+numberOf TooFar = 2  -- a stride "is above 2,147,483,648 in magnitude", along an axis of two or more entries
 numberOf OutsideC = 3  -- "some place (i,j) of C .. is outside C's slice"
 numberOf CollidesC = 4  -- "two different places of C are the same element"
 numberOf OutsideA = 5  -- "some place of A (m by k) is outside A's slice"

@@ -64,7 +64,9 @@ pub fn hundredths(x: f64) {
 fn meaning(x: Refusal) {
     match x {
         Refusal::TooLarge => text(b"m, k or n is above 65,536"),
-        Refusal::TooFar => text(b"a stride of A, B or C is above 2,147,483,648 in magnitude"),
+        Refusal::TooFar => text(
+            b"a stride of A, B or C along an axis of two or more entries is above 2,147,483,648 in magnitude",
+        ),
         Refusal::OutsideC => text(b"a place of C is outside C's slice"),
         Refusal::CollidesC => text(b"two different places of C are the same element"),
         Refusal::OutsideA => text(b"a place of A is outside A's slice"),

@@ -12,6 +12,7 @@ pub mod kind;
 pub mod made;
 pub mod model;
 pub mod panel;
+pub mod pieces;
 pub mod plain;
 pub mod random;
 pub mod statement;

@@ -5,8 +5,11 @@ use crate::random::{Flavour, Random};
 use crate::statement::{need, two_meet, Lengths};
 use hewnspandrel::Operand;
 
-/// The largest stride that is not refused.
+/// The largest stride that is not refused along two or more entries.
 pub const FAR: isize = 1 << 31;
+
+/// Strides that are refused there, and nowhere else: on either side just too far, far, and the furthest.
+pub const TOO_FAR: [isize; 6] = [FAR + 1, -FAR - 1, 1 << 40, -(1 << 40), isize::MAX, isize::MIN];
 
 /// A slice that lies inside a longer buffer. All of the buffer holds any bits at first, so that guards and gaps are full of
 /// signalling NaNs too.
@@ -76,10 +79,9 @@ impl<K: Kind> Made<K> {
                 *any(random, [&mut call.m, &mut call.k, &mut call.n]) = size;
             }
             2 => {
-                let further = random.below(1 << 20) as isize;
-                let stride = random.one_of(&[FAR + 1, -FAR - 1, FAR + 1 + further, -FAR - 1 - further, isize::MAX, isize::MIN]);
-                let o = any(random, [&mut call.la, &mut call.lb, &mut call.lc]);
-                *any(random, [&mut o.rs, &mut o.cs]) = stride;
+                let further = FAR + 1 + random.below(1 << 20) as isize;
+                let stride = if random.once_in(4) { random.signed(further) } else { random.one_of(&TOO_FAR) };
+                *mostly_judged(random, call) = stride;
             }
             3 => put_outside::<K>(random, &mut call.lc, &mut self.c),
             4 => make_meet(random, &mut call.lc),
@@ -95,6 +97,17 @@ impl<K: Kind> Made<K> {
 
 fn any<'a, T, const N: usize>(random: &mut Random, all: [&'a mut T; N]) -> &'a mut T {
     all.into_iter().nth(random.below(N)).unwrap()
+}
+
+/// One of the six strides: mostly one along two or more entries, where there is such an axis.
+fn mostly_judged<'a, R>(random: &mut Random, call: &'a mut Call<R>) -> &'a mut isize {
+    let Call { m, k, n, la, lb, lc, .. } = call;
+    let all = [
+        (&mut la.rs, *m), (&mut la.cs, *k), (&mut lb.rs, *k), (&mut lb.cs, *n), (&mut lc.rs, *m), (&mut lc.cs, *n),
+    ];
+    let (judged, others): (Vec<_>, Vec<_>) = all.into_iter().partition(|&(_, entries)| entries >= 2);
+    let mut among = if judged.is_empty() || !others.is_empty() && random.once_in(8) { others } else { judged };
+    among.swap_remove(random.below(among.len())).0
 }
 
 fn factor_or_zero<R: Real>(random: &mut Random) -> [R; 2] {
@@ -131,7 +144,8 @@ fn make_meet(random: &mut Random, o: &mut Operand) {
 /// An operand of so many rows and columns, and a slice that just holds its places or somewhat more.
 fn matrix<K: Kind>(random: &mut Random, rows: usize, columns: usize, apart: bool) -> (Operand, Lent<K::R>) {
     if rows == 0 || columns == 0 {
-        let o = Operand { base: random.one_of(&[0, 1, 7, usize::MAX]), rs: any_stride(random), cs: any_stride(random) };
+        let base = random.one_of(&[0, 1, 7, usize::MAX]);
+        let o = Operand { base, rs: any_stride(random, rows), cs: any_stride(random, columns) };
         let len = random.below(6);
         return (o, Lent::new(random, len));
     }
@@ -179,12 +193,19 @@ pub fn taken<K: Kind>(o: Operand, rows: usize, columns: usize, reals: usize) -> 
     taken
 }
 
-fn any_stride(random: &mut Random) -> isize {
-    let stride = random.one_of(&[0, 1, 2, 100, 65_537, FAR - 1, FAR]);
-    random.signed(stride)
+/// Any stride that is not refused along so many entries; any isize along none or one.
+fn any_stride(random: &mut Random, entries: usize) -> isize {
+    match random.below(if entries < 2 { 4 } else { 2 }) {
+        2 => random.one_of(&TOO_FAR),
+        3 => random.word() as isize,
+        _ => {
+            let stride = random.one_of(&[0, 1, 2, 100, 65_537, FAR - 1, FAR]);
+            random.signed(stride)
+        }
+    }
 }
 
-/// Strides under which places are apart (where asked), of any sign; far ones where an axis has one entry.
+/// Strides under which places are apart (where asked), of any sign; any isize where an axis has one entry.
 fn strides(random: &mut Random, rows: usize, columns: usize, apart: bool) -> (isize, isize) {
     let step = random.one_of(&[1, 1, 1, 2, 3]);
     let gap = random.one_of(&[0, 0, 1, 3]);
@@ -198,11 +219,11 @@ fn strides(random: &mut Random, rows: usize, columns: usize, apart: bool) -> (is
         9 => (0, 0),
         _ => random.one_of(&[(1, 0), (0, 1), (1, 1)]),
     };
-    if rows == 1 && random.once_in(2) {
-        return (any_stride(random), random.signed(cs as isize));
-    }
-    if columns == 1 && random.once_in(2) {
-        return (random.signed(rs as isize), any_stride(random));
+    if (rows == 1 || columns == 1) && random.once_in(2) {
+        let mut along = |entries, stride: usize| {
+            if entries == 1 { any_stride(random, entries) } else { random.signed(stride as isize) }
+        };
+        return (along(rows, rs), along(columns, cs));
     }
     if apart && rows * columns <= 4096 {
         let o = Operand { base: 0, rs: rs as isize, cs: cs as isize };
@@ -227,9 +248,13 @@ fn woven(random: &mut Random, rows: usize, columns: usize) -> (usize, usize) {
     (columns, 1)
 }
 
-/// Sizes: mostly small ones, tile edges among them; some with one or two sizes at a chunk's edge; seldom three.
+/// Sizes: mostly small, tile edges and many ones among them; some with one or two at a chunk's edge; seldom three.
 pub fn sizes<K: Kind>(random: &mut Random) -> [usize; 3] {
-    let small = |random: &mut Random| if random.once_in(25) { 0 } else { random.between(1, 11) };
+    let small = |random: &mut Random| match random.below(25) {
+        0 => 0,
+        1..=4 => 1,
+        _ => random.between(1, 11),
+    };
     let mut sizes = [small(random), small(random), small(random)];
     let work = match random.below(2000) {
         0 => 10_000_000,

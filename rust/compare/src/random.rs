@@ -41,9 +41,9 @@ impl Random {
         all[self.below(all.len())]
     }
 
-    /// Minus x or x.
+    /// Minus x or x. The least isize has no minus and stays.
     pub fn signed(&mut self, x: isize) -> isize {
-        if self.once_in(2) { -x } else { x }
+        if self.once_in(2) { x.wrapping_neg() } else { x }
     }
 }
 

@@ -1,4 +1,5 @@
-//! Document 01's seven refusals and the need, stated over places and not by corners or divisors.
+//! The seven refusals, 2 by document 02 and the others by document 01, and the need: stated over places and not by corners
+//! or divisors.
 
 use crate::kind::{Call, Kind};
 use hewnspandrel::Operand;
@@ -76,9 +77,11 @@ fn too_large(m: usize, k: usize, n: usize) -> bool {
     [m, k, n].iter().any(|&size| size > 65_536)
 }
 
+/// Some stride is too far. It is judged only where the axis that it steps along has two or more entries.
 fn too_far<R>(call: &Call<R>) -> bool {
-    let strides = [call.la.rs, call.la.cs, call.lb.rs, call.lb.cs, call.lc.rs, call.lc.cs];
-    strides.iter().any(|&stride| (stride as i128).abs() > 2_147_483_648)
+    let Call { m, k, n, la, lb, lc, .. } = *call;
+    let strides_and_entries = [(la.rs, m), (la.cs, k), (lb.rs, k), (lb.cs, n), (lc.rs, m), (lc.cs, n)];
+    strides_and_entries.iter().any(|&(stride, entries)| entries >= 2 && (stride as i128).abs() > 2_147_483_648)
 }
 
 /// The number that a call is answered with.

@@ -3,13 +3,13 @@
 //!
 //! HEWNSPANDREL_CALLS is the number of calls, HEWNSPANDREL_SEED the seed; the same two give the same calls.
 
-use compare::check::{check, check_c, check_pack};
-use compare::kind::{Call, Kind, Real, C, D, S, Z};
-use compare::made::{sizes, Lent, Made};
+use compare::check::{check, check_c};
+use compare::kind::{Call, Kind, C, D, S, Z};
+use compare::made::{sizes, Lent, Made, FAR};
 use compare::model;
+use compare::pieces::{check_pieces, Cuts};
 use compare::random::{setting, Random};
-use compare::statement::{answer, conditions, need};
-use hewnspandrel::Operand;
+use compare::statement::{answer, conditions};
 
 /// What was met on the way, so that a run can tell that it met everything.
 #[derive(Default)]
@@ -17,6 +17,10 @@ struct Met {
     answers: [usize; 8],
     pairs: [[usize; 8]; 8],
     cuts: usize,
+    /// Calls of two or more pieces with a stride beyond the limit, which is not judged: rows and columns of A, of B, of C.
+    far_cuts: [usize; 6],
+    /// Calls of more than one row, column or depth step with a piece of one.
+    singles: [usize; 3],
     modelled: usize,
 }
 
@@ -31,9 +35,13 @@ fn calls<K: Kind>() {
         let what = format!("{} call {i} of seed {seed}", K::NAME);
         one_call::<K>(&mut random, &what, &mut met);
     }
-    println!("{}: answers 0 to 7 {:?}, {} cut into pieces, {} modelled", K::NAME, met.answers, met.cuts, met.modelled);
+    let Met { answers, cuts, far_cuts, singles, modelled, .. } = met;
+    println!("{}: answers 0 to 7 {answers:?}, {modelled} modelled, {cuts} cut into pieces", K::NAME);
+    println!("{}: cut with far strides {far_cuts:?}, into single rows, columns, depth steps {singles:?}", K::NAME);
     if total >= 10_000 {
-        assert!(met.answers.iter().all(|&n| n > 0), "{}: answers {:?}", K::NAME, met.answers);
+        assert!(answers.iter().all(|&n| n > 0), "{}: an answer never met", K::NAME);
+        assert!(far_cuts.iter().all(|&n| n > 0), "{}: a stride never too far in a cut call", K::NAME);
+        assert!(singles.iter().all(|&n| n > 0), "{}: a piece of one never met", K::NAME);
         for (x, y) in (1..8).flat_map(|y| (1..y).map(move |x| (x, y))) {
             assert!(met.pairs[x][y] > 0, "{}: faults {x} and {y} never together", K::NAME);
         }
@@ -61,8 +69,7 @@ fn one_call<K: Kind>(random: &mut Random, what: &str, met: &mut Met) {
         met.modelled += 1;
     }
     if expected == 0 && made.call.m * made.call.k * made.call.n > 0 && (k > 256 || random.once_in(4)) {
-        check_cut(random, &made, &whole, what);
-        met.cuts += 1;
+        check_cut(random, &made, &whole, what, met);
     }
 }
 
@@ -94,45 +101,18 @@ fn cut(random: &mut Random, length: usize, unit: usize) -> Vec<usize> {
     at
 }
 
-/// Demand 3: the call in pieces, cells mixed at will, each cell's stretches rising.
-fn check_cut<K: Kind>(random: &mut Random, made: &Made<K>, whole: &Lent<K::R>, what: &str) {
-    let call = made.call;
-    let (rows, columns, depths) = (cut(random, call.m, 1), cut(random, call.n, 1), cut(random, call.k, 256));
-    let cells = (rows.len() - 1) * (columns.len() - 1);
-    let mut done = vec![0; cells];
-    let (mut c, mut pack) = (made.c.clone(), made.pack.clone());
-    for _ in 0..cells * (depths.len() - 1) {
-        let cell = loop {
-            let cell = random.below(cells);
-            if done[cell] < depths.len() - 1 {
-                break cell;
-            }
-        };
-        let (i, j, p) = (cell / (columns.len() - 1), cell % (columns.len() - 1), done[cell]);
-        done[cell] += 1;
-        let piece = piece(&call, &rows[i..], &columns[j..], &depths[p..]);
-        let answer = K::ours(&piece, made.a.slice(), made.b.slice(), c.slice_mut(), pack.slice_mut());
-        assert_eq!(answer, 0, "{what}: piece {piece:?} of {call:?}");
+/// Demand 3, cut anywhere.
+fn check_cut<K: Kind>(random: &mut Random, made: &Made<K>, whole: &Lent<K::R>, what: &str, met: &mut Met) {
+    let Call { m, k, n, la, lb, lc, .. } = made.call;
+    let cuts = Cuts { rows: cut(random, m, 1), columns: cut(random, n, 1), depths: cut(random, k, 256) };
+    check_pieces(random, made, &cuts, whole, what);
+    met.cuts += 1;
+    let is_cut = [&cuts.rows, &cuts.columns, &cuts.depths].iter().any(|axis| axis.len() > 2);
+    for (met, stride) in met.far_cuts.iter_mut().zip([la.rs, la.cs, lb.rs, lb.cs, lc.rs, lc.cs]) {
+        *met += (is_cut && stride.unsigned_abs() > FAR.unsigned_abs()) as usize;
     }
-    check_c(made, &c, whole, &format!("{what}, cut at rows {rows:?}, columns {columns:?}, depths {depths:?}"));
-    check_pack(made, &pack, need::<K>(call.m, call.k, call.n) * K::WIDTH, what);
-}
-
-/// The call for one cell and stretch: bases moved, strides kept.
-fn piece<R: Real>(call: &Call<R>, rows: &[usize], columns: &[usize], depths: &[usize]) -> Call<R> {
-    let moved = |o: Operand, i: usize, j: usize| Operand {
-        base: (o.base as isize + i as isize * o.rs + j as isize * o.cs) as usize,
-        ..o
-    };
-    Call {
-        m: rows[1] - rows[0],
-        k: depths[1] - depths[0],
-        n: columns[1] - columns[0],
-        beta: if depths[0] == 0 { call.beta } else { [R::of(1.0), R::of(0.0)] },
-        la: moved(call.la, rows[0], depths[0]),
-        lb: moved(call.lb, depths[0], columns[0]),
-        lc: moved(call.lc, rows[0], columns[0]),
-        ..*call
+    for (met, (axis, length)) in met.singles.iter_mut().zip([(&cuts.rows, m), (&cuts.columns, n), (&cuts.depths, k)]) {
+        *met += (length > 1 && axis.windows(2).any(|part| part[1] - part[0] == 1)) as usize;
     }
 }
 

@@ -1,4 +1,4 @@
-//! Every set of faults, and both sides of each limit.
+//! Every set of faults, and both sides of each limit but that of strides, which has strides.rs and far_apart.rs.
 
 use compare::check::check;
 use compare::kind::{Call, Kind, Real, C, D, S, Z};
@@ -88,20 +88,6 @@ fn size_limits<K: Kind>() {
     }
 }
 
-/// 2^31 either way is let through on each of the six strides, one more is not, even where a size is zero.
-fn stride_limits<K: Kind>() {
-    for (stride, expected) in [(FAR, 0), (-FAR, 0), (FAR + 1, 2), (-FAR - 1, 2), (isize::MIN, 2), (isize::MAX, 2)] {
-        for which in 0..6 {
-            let mut operands = [o(0, 1, 1); 3];
-            *(if which % 2 == 0 { &mut operands[which / 2].rs } else { &mut operands[which / 2].cs }) = stride;
-            plain_call::<K>([1, 1, 1], operands, [1, 1, 1, need::<K>(1, 1, 1)], expected);
-            plain_call::<K>([0, 1, 1], operands, [0; 4], expected);
-            plain_call::<K>([1, 1, 0], operands, [0; 4], expected);
-            plain_call::<K>([1, 0, 1], operands, [0, 0, 1, 0], expected);
-        }
-    }
-}
-
 /// Bases at the ends of the machine's numbers, where a wrapped place would be inside.
 fn bases_that_would_wrap<K: Kind>() {
     for base in [usize::MAX, usize::MAX - 1, isize::MAX as usize, isize::MAX as usize + 1, 1 << 32] {
@@ -138,7 +124,6 @@ fn many_places<K: Kind>() {
 
 fn limits<K: Kind>() {
     size_limits::<K>();
-    stride_limits::<K>();
     bases_that_would_wrap::<K>();
     exact_lengths::<K>();
     many_places::<K>();
@@ -174,47 +159,6 @@ fn the_need() {
     needs::<D>();
     needs::<C>();
     needs::<Z>();
-}
-
-/// Two places of C that lie 2^31 elements apart, in memory that the machine lends but that is hardly touched.
-fn far_apart<K: Kind>() {
-    let elements = FAR as usize + 3;
-    let layout = std::alloc::Layout::array::<K::R>(elements * K::WIDTH).unwrap();
-    // SAFETY: not of size zero; zeroed reals are reals.
-    let memory = unsafe { std::alloc::alloc_zeroed(layout) } as *mut K::R;
-    if memory.is_null() {
-        println!("{}: the machine lends no {} bytes, not run", K::NAME, layout.size());
-        return;
-    }
-    // SAFETY: just allocated, with this length, and used nowhere else.
-    let c = unsafe { std::slice::from_raw_parts_mut(memory, elements * K::WIDTH) };
-    let mut pack = vec![K::R::of(0.0); need::<K>(2, 1, 2) * K::WIDTH];
-    let (zero, one, three) = (K::R::of(0.0), K::R::of(1.0), K::R::of(3.0));
-    let still = Operand { base: 0, rs: 0, cs: 0 };
-    let call = Call { m: 2, k: 1, n: 2, alpha: [one, zero], beta: [zero; 2], la: still, lb: still, lc: still };
-    for (base, rs) in [(1, FAR), (1 + FAR as usize, -FAR)] {
-        let mut run = |base| {
-            let call = Call { lc: Operand { base, rs, cs: 1 }, ..call };
-            K::ours(&call, &[three, zero], &[three, zero], c, &mut pack)
-        };
-        assert_eq!((run(base + 2), run(base)), (3, 0), "{}", K::NAME);
-        for start in [0, FAR as usize] {
-            let around = &mut c[start * K::WIDTH..(start + 3) * K::WIDTH];
-            let firsts: Vec<_> = around.iter().step_by(K::WIDTH).copied().collect();
-            assert_eq!(firsts, [zero, K::R::of(9.0), K::R::of(9.0)], "{} from {start}", K::NAME);
-            around.fill(zero);
-        }
-    }
-    // SAFETY: allocated above with this layout.
-    unsafe { std::alloc::dealloc(memory as *mut u8, layout) };
-}
-
-#[test]
-fn two_to_the_31_apart() {
-    far_apart::<S>();
-    far_apart::<D>();
-    far_apart::<C>();
-    far_apart::<Z>();
 }
 
 /// A lone last real is nobody's: an odd slice is as long as the even one before it.

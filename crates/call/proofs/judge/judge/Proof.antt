@@ -1,4 +1,5 @@
 -- `judge` meets its contract: a stage's answer where it refuses, and the next where it is done. Assumes nothing.
+use Prim.Native.Nat.{ℕ, _<_}
 use mathlib.Core.Path.{_≡_, refl}
 use mathlib.Core.Logic.{_⊎_, inl, inr}
 use native.Mathlib.Nat.{pos-of-ne-zero}
@@ -6,7 +7,10 @@ use native.Mathlib.Omega.{arith}
 use borrow.Author.Needs.{needs}
 use Rattle.refusal.specs.Order.{done}
 use Rattle.refusal.specs.OrderLaws.{at-done}
-use Rattle.call.specs.Verdict.{SizesThen, CThen, ABThen}
+use Rattle.element.specs.Kinds.{viewOf, tilingOf, depthChunk}
+use Rattle.layout.specs.Need.{needOf}
+use Rattle.layout.specs.Operands.{Tells}
+use Rattle.call.specs.Verdict.{SizesThen, CThen, ABThen, RoomThen, Judged}
 use Rattle.call.specs.Outcome.{answerNumber}
 use Rattle.call.specs.StageLaws.{judged-sizes, judged-wide, judged-c, judged-deep, judged-ab, judged-room}
 use Rattle.call.specs.DoneLaws.{none-empty}
@@ -106,17 +110,32 @@ returns-6 c =
     judged-ab (a .kind) (a .pack) (a .q) (a .floats) (answerNumber (s .result)) (sizes-done (else1 e)) (some e) (c-done d) (f .if5 .left)
     (omega (arith, c .before .number3 .ensures, c .if6 .taken)) (s .ensures)
 
-returns-7 : tie.Need-returns-7
-returns-7 c =
-    let f = else5 (c .before) in
+-- the last stage: the pack buffer's whole elements against the need
+abbrev start6 : tie.After-too-short → tie.Start
+start6 c = start3 (else3 (else4 (else5 (c .before .before))))
+
+pack-short : (c : tie.After-too-short) → let a = start6 c .args in
+    Tells (c .too-short .result) (viewOf (a .kind) .count (a .pack) < needOf (tilingOf (a .kind)) depthChunk (a .q .m) (a .q .k) (a .q .n))
+pack-short c = rw (c .before .elements-in .ensures) at (c .too-short .ensures)
+
+room-judged : (c : tie.After-too-short) (r : ℕ) → let a = start6 c .args in RoomThen (a .kind) depthChunk (a .q) (a .pack) done r
+    → Judged (a .kind) (a .pack) (a .q) (a .floats) done r
+room-judged c r v =
+    let g = c .before .before in
+    let f = else5 g in
     let d = else4 f in
     let e = else3 d in
-    let a = start3 e .args in
-    judged-room (a .kind) (a .pack) (a .q) (a .floats) (answerNumber (c .room .result)) (sizes-done (else1 e)) (some e) (c-done d)
-    (f .if5 .left) (ab-done (c .before)) (c .room .ensures)
+    let a = start6 c .args in
+    judged-room (a .kind) (a .pack) (a .q) (a .floats) r (sizes-done (else1 e)) (some e) (c-done d) (f .if5 .left) (ab-done g) v
+
+returns-7 : tie.Need-returns-7
+returns-7 c = room-judged (c .before) 7 (inl (pack-short (c .before) .if-true (c .if7 .taken), refl))
+
+returns-8 : tie.Need-returns-8
+returns-8 c = room-judged (c .before) 0 (inr (pack-short (c .before) .if-false (c .if7 .left), refl))
 
 pub judge-spec : {M : Type 1} → statement M
 judge-spec =
     tie.close
     (tie.spec (λ c κs. search needs) (λ c κs. search needs) returns returns-2 returns-3 c-alone-requires (λ c κs. search needs) returns-4
-    returns-5 a-and-b-requires (λ c κs. search needs) returns-6 (λ c κs. search needs) returns-7)
+    returns-5 a-and-b-requires (λ c κs. search needs) returns-6 (λ c κs. search needs) (λ c κs. search needs) returns-7 returns-8)
