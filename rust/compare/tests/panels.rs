@@ -94,7 +94,7 @@ fn one_place<R: Stored>(random: &mut Random, what: &str, numbers: &[R], rows: u1
     let index = |random: &mut Random, side: u16| match random.below(8) {
         0 => usize::from(side).wrapping_sub(random.below(3)),
         1 => random.one_of(&[1 << 16, 1 << 32, 1 << 63, usize::MAX / 2, usize::MAX]).wrapping_add(random.below(3)),
-        2 => usize::MAX / usize::from(side.max(1)) + random.below(2),
+        2 => (usize::MAX / usize::from(side.max(1))).wrapping_add(random.below(2)),
         _ => random.below(usize::from(side) + 2),
     };
     let (row, column) = (index(random, rows), index(random, columns));
