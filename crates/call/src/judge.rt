@@ -14,7 +14,7 @@ use layout::operand::Operand;
 use refusal::Refusal;
 
 // The sizes of a call and where its matrices lie: A is m by k, B is k by n, C is m by n.
-#[derive(Drop)]
+#[derive(Clone, Copy)]
 pub struct Matrices {
     pub m: usize,
     pub k: usize,
@@ -25,7 +25,7 @@ pub struct Matrices {
 }
 
 // How many floats the slices of A, B and C have.
-#[derive(Drop)]
+#[derive(Clone, Copy)]
 pub struct Lengths {
     pub a: usize,
     pub b: usize,

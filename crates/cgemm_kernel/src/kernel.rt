@@ -24,14 +24,14 @@ pub type Column = [Complex32; MR];
 pub type Tile = [Column; NR];
 
 // The reals and the imaginaries of a column.
-#[derive(Drop)]
+#[derive(Clone, Copy)]
 pub struct Halves {
     pub re: [f32; MR],
     pub im: [f32; MR],
 }
 
 // What one depth step reads: reals and imaginaries of A's lanes, then of B's.
-#[derive(Drop)]
+#[derive(Clone, Copy)]
 pub struct Parts {
     pub pp: [f32; MR],
     pub qq: [f32; MR],

@@ -1,4 +1,6 @@
 // Document 01's "Examples on both sides", run: each line is the entry point, the example, the answer's number and C's floats by their bits.
+#![tactic(auto)]
+
 mod chunks;
 mod complex32;
 mod complex64;

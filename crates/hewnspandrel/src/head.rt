@@ -6,7 +6,7 @@ use panel::file::PanelAnswer;
 
 // 0 and what the file's head says, or the refusal's number and zeros.
 #[repr(C)]
-#[derive(Drop)]
+#[derive(Clone, Copy)]
 pub struct Head {
     pub answer: u64,
     pub version: u16,

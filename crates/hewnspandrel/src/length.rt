@@ -6,7 +6,7 @@ use layout::need::{PackLength, pack_length};
 
 // 0 and the length in elements, or the refusal's number and 0.
 #[repr(C)]
-#[derive(Drop)]
+#[derive(Clone, Copy)]
 pub struct Length {
     pub answer: u64,
     pub elements: usize,

@@ -7,7 +7,7 @@ use panel::real32::{ElementAnswer, element_at, read_f32};
 
 // 0 and the element, or the refusal's number and a NaN.
 #[repr(C)]
-#[derive(Drop)]
+#[derive(Clone, Copy)]
 pub struct Element {
     pub answer: u64,
     pub element: f32,

@@ -8,7 +8,7 @@ use panel::real64::{ElementAnswer, element_at, read_f64};
 
 // 0 and the element, or the refusal's number and a NaN.
 #[repr(C)]
-#[derive(Drop)]
+#[derive(Clone, Copy)]
 pub struct Element {
     pub answer: u64,
     pub element: f64,

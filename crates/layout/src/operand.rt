@@ -5,7 +5,7 @@ ghost use Rattle.layout.specs.Operands.{Reachable, transposed};
 
 // Where place (0,0) lies, and the row and column strides, in whole elements.
 #[repr(C)]
-#[derive(Drop)]
+#[derive(Clone, Copy)]
 pub struct Operand {
     pub base: usize,
     pub rs: isize,

@@ -1,6 +1,8 @@
 // A sample night: panels from files, telemetry times coefficients into scores, a late correction added onto them, a file and a correction
 // that are refused, and who is flashed at six. The files of data/, read where the program runs, were written by Python's struct.pack, as
 // pack("<3sHBHH12d", b"IVP", 1, 2, 4, 3, ..). damaged.ivp has other readings than telemetry.ivp, and lacks its last byte.
+#![tactic(auto)]
+
 ghost use Rattle.std.specs.Prelude.{◌<◌, ◌≤◌};
 
 use call::answer::Answer;

@@ -1,4 +1,6 @@
 // Panels: read from a file, and held together with their shape. No counterpart in the Rust.
+#![tactic(auto)]
+
 pub mod file;
 pub mod head;
 pub mod real32;

@@ -45,14 +45,14 @@ pub fn read_f32(file: &[u8], numbers: &mut [f32]) -> PanelAnswer
 }
 
 // The borrowed numbers together with their shape, row by row.
-#[derive(Drop)]
+#[derive(Clone, Copy)]
 pub struct Panel<'a> {
     pub numbers: &'a [f32],
     pub rows: u16,
     pub columns: u16,
 }
 
-#[derive(Drop)]
+#[derive(Clone, Copy)]
 pub enum ElementAnswer {
     Element(f32),
     Refused(Refusal),

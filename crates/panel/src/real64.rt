@@ -46,14 +46,14 @@ pub fn read_f64(file: &[u8], numbers: &mut [f64]) -> PanelAnswer
 }
 
 // The borrowed numbers together with their shape, row by row.
-#[derive(Drop)]
+#[derive(Clone, Copy)]
 pub struct Panel<'a> {
     pub numbers: &'a [f64],
     pub rows: u16,
     pub columns: u16,
 }
 
-#[derive(Drop)]
+#[derive(Clone, Copy)]
 pub enum ElementAnswer {
     Element(f64),
     Refused(Refusal),

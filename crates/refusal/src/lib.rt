@@ -1,8 +1,10 @@
 // Every way to be refused, by the numbers of documents 01 and 02. No counterpart in the Rust, which trusts its caller.
+#![tactic(auto)]
+
 ghost use Rattle.std.specs.Prelude.{◌≡◌};
 ghost use Rattle.refusal.specs.Numbers.{number_of};
 
-#[derive(Drop)]
+#[derive(Clone, Copy)]
 pub enum Refusal {
     TooLarge,
     TooFar,

@@ -1,4 +1,6 @@
 // Replays the calls of the file sample.words through our entry points, and says which disagree with what the Rust crate did.
+#![tactic(auto)]
+
 ghost use Rattle.std.specs.Prelude.{◌≡◌, get_or};
 ghost use Rattle.layout.specs.Operands.{Tells};
 ghost use Rattle.sample.specs.declared.calls.Comparison.{Comparison};

@@ -1,7 +1,8 @@
 -- Laws of `Updated`: one after the other, side by side, a part as the whole, and that it leaves one slice only. Assumes nothing.
 use Rattle.std.specs.Prelude.{ℕ, zero, suc, ◌+◌, ◌-◌, ◌<◌, ◌≡◌, refl, ◌⊎◌, List, get_or, Float}
 use Rattle.std.proofs.Common.{sym, ap, ◌∙◌, subst, inl, inr, arith, ext_get_or}
-use Rattle.std.proofs.Math.Logic.{ite, if_pos, if_neg, Dec·and}
+use Rattle.std.proofs.Math.Logic.{ite, if_pos, if_neg}
+use Rattle.std.proofs.Math.Logic.Dec
 use Rattle.std.proofs.Math.Decide.{dec_lt, dec_le, ℕ_discrete, map_dec}
 use Rattle.std.specs.Float.{nan}
 use Rattle.rules.specs.Slice.{View, Updated, Block, Region}
@@ -9,10 +10,10 @@ use Rattle.rules.specs.Stores.{Apart}
 use Rattle.rules.specs.ViewLaws.{Lawful}
 
 pub block? : (m n i j : ℕ) → Dec (Block m n i j)
-block? m n i j = Dec·and (dec_lt i m) (dec_lt j n)
+block? m n i j = Dec.and (dec_lt i m) (dec_lt j n)
 
 pub region? : (r m c n i j : ℕ) → Dec (Region r m c n i j)
-region? r m c n i j = Dec·and (Dec·and (dec_le r i) (dec_lt i (r + m))) (Dec·and (dec_le c j) (dec_lt j (c + n)))
+region? r m c n i j = Dec.and (Dec.and (dec_le r i) (dec_lt i (r + m))) (Dec.and (dec_le c j) (dec_lt j (c + n)))
 
 -- one below m that Q holds of, or that there is none
 pub below? : {Q : ℕ → Type 0} → ((i : ℕ) → Dec (Q i)) → (m : ℕ) → Dec ((i : ℕ) × (i < m) × Q i)

@@ -34,7 +34,7 @@ const LONGEST: u64 = 4096;
 const LARGEST: u64 = 0xffff_ffff;
 
 // What a call came to: as recorded, another answer, or another float at a place of C's slice.
-#[derive(Drop)]
+#[derive(Clone, Copy)]
 pub enum Comparison {
     Agrees,
     Answer,

@@ -1,2 +1,4 @@
 // The stored sample of the Rust crate's answers: how calls lie in words.
+#![tactic(auto)]
+
 pub mod calls;

@@ -1,4 +1,6 @@
 // How the programs write: text, whole numbers, floats by their bits or with two decimals, and what a refusal means.
+#![tactic(auto)]
+
 use libc::STDOUT_FILENO;
 use refusal::Refusal;
 

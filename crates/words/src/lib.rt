@@ -1,4 +1,6 @@
 // Bytes as numbers, the lowest first; as words, eight bytes each; a word by its index, the words behind some, a word as a signed number.
+#![tactic(auto)]
+
 ghost use Rattle.std.specs.Prelude.{◌≡◌, ◌≤◌, ◌<◌, ◌^◌, length, get_or, drop};
 ghost use Rattle.std.specs.Int.{w64};
 ghost use Rattle.std.proofs.Common.{to_z};

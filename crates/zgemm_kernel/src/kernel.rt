@@ -25,14 +25,14 @@ pub type Column = [Complex64; MR];
 pub type Tile = [Column; NR];
 
 // The reals and the imaginaries of a column.
-#[derive(Drop)]
+#[derive(Clone, Copy)]
 pub struct Halves {
     pub re: [f64; MR],
     pub im: [f64; MR],
 }
 
 // What one depth step reads: reals and imaginaries of A's lanes, then of B's.
-#[derive(Drop)]
+#[derive(Clone, Copy)]
 pub struct Parts {
     pub pp: [f64; MR],
     pub qq: [f64; MR],

@@ -40,6 +40,6 @@ returns-2 c =
       refused = λ _. zero_by_zero binary64;
     }
 
-pub hewn_panel_element_f64_spec : {M : Type 1} → statement M
-hewn_panel_element_f64_spec =
+pub hewn_panel_element_f32_spec : {M : Type 1} → statement M
+hewn_panel_element_f32_spec =
     tie.close (tie.spec (λ c κs. search rules) (λ c. search rules) (λ c. search rules) (λ c κs. search rules) returns returns-2)

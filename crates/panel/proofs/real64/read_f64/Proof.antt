@@ -36,8 +36,8 @@ returns-2 c =
     read_done binary64 _ _ _ (accepted at.before) at.elements-of.ensures.0 c.before.before.fill.ensures
 
 -- a line for each step
-pub read_f64_spec : {M : Type 1} → statement M
-read_f64_spec =
+pub read_f32_spec : {M : Type 1} → statement M
+read_f32_spec =
     tie.close
     (tie.spec
     (λ c κs. search rules) (λ c. search rules) (λ c. search rules)

@@ -119,8 +119,8 @@ returns-5 c =
     _ (none_idle (whole s).over (m_some e) some (n_some e))
     (record { same_length = left.keeps.same_length; beyond = kept_elements kind _ left.keeps })
 
-pub zgemm_spec : {M : Type 1} → statement M
-zgemm_spec =
+pub sgemm_spec : {M : Type 1} → statement M
+sgemm_spec =
     tie.close
     (tie.spec
     (λ c κs. search rules)
