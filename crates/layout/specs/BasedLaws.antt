@@ -1,5 +1,5 @@
 -- Matrices that may be read or written: their indexes, and their parts, which are inside, apart and modest with the whole. Assumes nothing.
-use Rattle.core.specs.Prelude.{◌≡◌, ℕ, ◌+◌, ◌<◌, ◌≤◌, List, pos, negsuc, unsigned_abs}
+use Rattle.std.specs.Prelude.{◌≡◌, ℕ, ◌+◌, ◌<◌, ◌≤◌, List, pos, negsuc, unsigned_abs}
 use Rattle.std.specs.Prelude.{refl, Float}
 use Rattle.std.proofs.Common.{sym, ap, ◌∙◌, subst, inl, inr, zero-add, add-mul, arith}
 use Rattle.rules.specs.Slice.{View, Updated, Block, Region}

@@ -1,6 +1,6 @@
 -- Signed numbers as what is above 0 and what is below, how far an axis reaches either way, and the least steps that lead to one place.
 -- Only our own tests speak of them. Definitions only.
-use Rattle.core.specs.Prelude.{◌≡◌, ℕ, suc, ◌-◌, ◌*◌, ◌≤◌, ℤ, pos, negsuc}
+use Rattle.std.specs.Prelude.{◌≡◌, ℕ, suc, ◌-◌, ◌*◌, ◌≤◌, ℤ, pos, negsuc}
 use Rattle.layout.specs.declared.strides.Span.{Span}
 
 -- a number is `up` of it less `dn` of it, and one of the two is 0

@@ -1,5 +1,5 @@
 -- Laws of `Tells`, and what is left where a test found nothing. Assumes nothing.
-use Rattle.core.specs.Prelude.{◌≡◌, ℕ, ◌<◌, ◌≤◌, Bool, true, false, ◌⊎◌, ℤ, pos, negsuc, nat_abs, nat_lt}
+use Rattle.std.specs.Prelude.{◌≡◌, ℕ, ◌<◌, ◌≤◌, Bool, true, false, ◌⊎◌, ℤ, pos, negsuc, nat_abs, nat_lt}
 use Rattle.std.proofs.Common.{sym, subst, inl, inr, arith, ltb-true, ltb-false}
 use Rattle.std.proofs.Math.Decide.{dec_lt, ℕ_discrete}
 use Rattle.layout.specs.declared.operand.Operand.{Operand}

@@ -1,6 +1,6 @@
 // The tests of one operand's layout, each exact: a place outside the slice, two places that meet, a stride that is too large. The crate has
 // only debug assertions here.
-ghost use Rattle.core.specs.Prelude.{◌<◌};
+ghost use Rattle.std.specs.Prelude.{◌<◌};
 ghost use Rattle.layout.specs.Place.{SomeOutside, TwoMeet, LongStride, Long};
 ghost use Rattle.layout.specs.Operands.{Tells, Modest};
 ghost use Rattle.layout.specs.Splits.{LeastSteps};

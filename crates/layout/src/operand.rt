@@ -1,5 +1,5 @@
 // An operand's layout, the index of a place, the operand based at a place, and the transposed one. Rust: `stride_offset`, ptr.rs.
-ghost use Rattle.core.specs.Prelude.{◌≡◌};
+ghost use Rattle.std.specs.Prelude.{◌≡◌};
 ghost use Rattle.layout.specs.Place.{index_of, based_at};
 ghost use Rattle.layout.specs.Operands.{Reachable, transposed};
 
