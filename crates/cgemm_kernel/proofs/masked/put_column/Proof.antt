@@ -9,7 +9,7 @@ use Rattle.rules.specs.SliceLaws.{agreeing, untouched}
 use Rattle.element.specs.KindLaws.{lawful}
 use Rattle.element.specs.Complex32.{kind, arith as ar, view, held, fate_of}
 use Rattle.layout.specs.Place.{index_of}
-use Rattle.layout.specs.BasedLaws.{writable_long}
+use Rattle.layout.proofs.BasedLaws.{writable_long}
 use Rattle.loops.specs.Tiles.{at}
 use Rattle.loops.specs.PutLaws.{down_next}
 use borrow.Author.Rules.{rules}

@@ -11,7 +11,7 @@ use Rattle.rules.specs.SliceLaws.{untouched, agreeing}
 use Rattle.element.specs.KindLaws.{lawful}
 use Rattle.element.specs.Real64.{kind, arith as ar, view, held, fate_of}
 use Rattle.layout.specs.Place.{index_of}
-use Rattle.layout.specs.BasedLaws.{writable_long}
+use Rattle.layout.proofs.BasedLaws.{writable_long}
 use Rattle.loops.specs.Tiles.{cell}
 use Rattle.loops.specs.PutLaws.{line_next}
 use borrow.Author.Rules.{rules}

@@ -10,7 +10,7 @@ use Rattle.rules.specs.SliceLaws.{untouched, agreeing}
 use Rattle.element.specs.KindLaws.{lawful}
 use Rattle.element.specs.Real32.{kind, arith as ar, view, held, fate_of}
 use Rattle.layout.specs.Place.{index_of}
-use Rattle.layout.specs.BasedLaws.{writable_long}
+use Rattle.layout.proofs.BasedLaws.{writable_long}
 use Rattle.loops.specs.Tiles.{cell}
 use Rattle.loops.specs.PutLaws.{line_next}
 use borrow.Author.Rules.{rules}

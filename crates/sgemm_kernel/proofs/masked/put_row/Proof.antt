@@ -11,7 +11,7 @@ use Rattle.rules.specs.SliceLaws.{untouched, agreeing}
 use Rattle.element.specs.KindLaws.{lawful}
 use Rattle.element.specs.Real32.{kind, arith as ar, view, tiling, held, fate_of}
 use Rattle.layout.specs.Place.{index_of}
-use Rattle.layout.specs.BasedLaws.{writable_long}
+use Rattle.layout.proofs.BasedLaws.{writable_long}
 use Rattle.loops.specs.Tiles.{at}
 use Rattle.loops.specs.PutLaws.{cell_masked}
 use borrow.Author.Rules.{rules}
