@@ -11,7 +11,7 @@ abbrev pub column_stepped : List Float → List Float → Float → List Float
 column_stepped t x y = line held tiling.mr (λ i. arith.step (at held t i) (at held x i) y)
 
 abbrev pub invariant-loop-j : goal.invariant-loop-j
-invariant-loop-j l = Filled [] tiling.nr l.j (λ j. column_stepped (get_or l.initial.u j []) l.x (at held l.y j)) l.initial.u l.u
+invariant-loop-j l = Filled [] tiling.nr l.j (λ j. column_stepped (get_or l.fn.t j []) l.fn.x (at held l.fn.y j)) l.fn.t l.u
 
 abbrev pub decreases-loop-j : goal.decreases-loop-j
 decreases-loop-j l = tiling.nr - l.j

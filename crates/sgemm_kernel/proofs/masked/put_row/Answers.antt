@@ -17,13 +17,13 @@ loop-j-preserved c =
     let j = c.loop-j.j in
     let f : ℕ → ℕ → Float → Float = λ i j. put ar (fate_of a.fate) (at held a.ab j) in
     elim c.if-j-cols.branch [
-      then-j-cols w ↦ (
+      | then-j-cols w ↦ (
         search rules,
         rw w.c-is (cell_masked (lawful kind) c.requires.writable f a.i j c.requires.i_lt_rows.0 w.if-j-cols.true c.loop-j.invariant.1
             (agreeing view (index_of a.lc) (λ i k o x. let e : j ≡ k = omega arith in ap (λ (z : ℕ). f i z x) e) w.put_one.ensures)),
       )
-    | else-j-cols w ↦ (
-        let e : min j a.cols ≡ min (j + 1) a.cols = omega arith in
-        (search rules, rw w.c-is (rw e at c.loop-j.invariant.1))
-      )
+      | else-j-cols w ↦ (
+          let e : min j a.cols ≡ min (j + 1) a.cols = omega arith in
+          (search rules, rw w.c-is (rw e at c.loop-j.invariant.1))
+          )
     ]
