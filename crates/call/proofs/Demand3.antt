@@ -8,8 +8,8 @@ use Rattle.element.specs.declared.kind.Kind.{Kind}
 use Rattle.call.specs.{declared.answer.Answer.Answer, declared.judge.Lengths.Lengths, Call.Call, Call.chunk, Call.Does}
 use Rattle.call.specs.{Verdict.lengths, Verdict.Verdict, Outcome.answer_number, Outcome.Leaves, Outcome.Outcome}
 use Rattle.call.specs.{Pieces.piece_call, Pieces.InTurn, Statements.Taken, Statements.CutDemand3, Statements.Demand3}
-use Rattle.call.specs.{PieceLaws.piece_accepted, PieceLaws.pieces_do, PieceLaws.does_same, PieceLaws.does_long}
-use Rattle.call.specs.{OneOutcome.verdict_one}
+use Rattle.call.proofs.PieceLaws.{piece_accepted, pieces_do, does_same, does_long}
+use Rattle.call.specs.OneOutcome.{verdict_one}
 
 pub cut_demand3 : CutDemand3
 cut_demand3 kind pack q A B slice number N piece taken cuts runs = record {
