@@ -1,8 +1,26 @@
-// How the programs write: text, whole numbers, floats by their bits or with two decimals, and what a refusal means.
+// How the programs read and write: a file's bytes; text, whole numbers, floats by their bits or with two decimals, and what a refusal means.
 #![tactic(auto)]
+
+ghost use Rattle.std.specs.Prelude.{◌≤◌, IfOk, length};
 
 use refusal::Refusal;
 use std::io;
+use std::io::Read;
+
+// Reads until the buffer is full or the file ends, and answers how many bytes it has put at the buffer's start.
+pub fn read_full(file: &mut impl Read, buffer: &mut [u8]) -> io::Result<usize>
+    ensures { IfOk result (λ n. n ≤ length buffer.new) }
+{
+    let mut done = 0;
+    while done < buffer.len() {
+        let got = file.read(&mut buffer[done..])?;
+        if got == 0 {
+            return Ok(done);
+        }
+        done += got;
+    }
+    Ok(done)
+}
 
 pub fn text(rt: &impl Print, s: &[u8]) -> io::Result<()> {
     rt.write_all(s)
