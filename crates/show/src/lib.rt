@@ -1,4 +1,5 @@
-// How the programs read and write: a file's bytes; text, whole numbers, floats by their bits or with two decimals, and what a refusal means.
+// How the programs read and write: a file's bytes; text, whole numbers, floats by their bits or with two decimals, what a refusal
+// means.
 #![tactic(auto)]
 
 ghost use Rattle.std.specs.Prelude.{◌≤◌, IfOk, length};
