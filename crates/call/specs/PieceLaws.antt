@@ -8,7 +8,7 @@ use Rattle.refusal.specs.Order.{done}
 use Rattle.rules.specs.{Element.multiplier, Element.element, Slice.Updated, Slice.Block}
 use Rattle.rules.specs.{Pieces.Piece, Pieces.Fits, Pieces.Cuts, Pieces.HasPlace, PieceLaws.cuts_proper, PieceLaws.cuts_divides}
 use Rattle.rules.specs.SliceLaws.{region?, moved, unique, placed?}
-use Rattle.rules.specs.CuttingTheorem.{portion_rule, whole_rule, cut}
+use Rattle.rules.proofs.CuttingTheorem.{portion_rule, whole_rule, cut}
 use Rattle.element.specs.KindLaws.{lawful}
 use Rattle.element.specs.{declared.kind.Kind.Kind, Kinds.arith_of, Kinds.view_of, Kinds.tiling_of, Kinds.depth_chunk}
 use Rattle.layout.specs.{declared.operand.Operand.Operand, Place.index_of, Place.based_at, NeedLaws.need_mono, NeedLaws.kind_sides}

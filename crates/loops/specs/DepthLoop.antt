@@ -6,7 +6,7 @@ use borrow.Rule.Slice.PartMut.{mid_of, put_mid}
 use Rattle.std.specs.Float.{nan}
 use Rattle.rules.specs.Element.{Fate, fate, put, chunk_sum, multiplier, chunks, chunk_length, after, element}
 use Rattle.rules.specs.Agree.{chunk_sum_agree}
-use Rattle.rules.specs.DepthLaws.{gathered, element_gathered}
+use Rattle.rules.proofs.DepthLaws.{gathered, element_gathered}
 use Rattle.rules.specs.Lists.{splice}
 use Rattle.rules.specs.ListLaws.{lent_from}
 use Rattle.rules.specs.Slice.{Updated}

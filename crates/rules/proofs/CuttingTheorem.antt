@@ -5,7 +5,7 @@ use Rattle.std.proofs.Math.Path.{refl, sym, ap}
 use Rattle.std.proofs.Common.{◌∙◌, arith}
 use Rattle.std.proofs.Math.Logic.{ite}
 use Rattle.rules.specs.Element.{Arith, multiplier, element}
-use Rattle.rules.specs.DepthLaws.{gathered, from, multiplier_start, gathered_cut, gathered_none, element_gathered}
+use Rattle.rules.proofs.DepthLaws.{gathered, from, multiplier_start, gathered_cut, gathered_none, element_gathered}
 use Rattle.rules.specs.Slice.{View, Updated}
 use Rattle.rules.specs.ViewLaws.{Lawful}
 use Rattle.rules.specs.Stores.{Apart}
