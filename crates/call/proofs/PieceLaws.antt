@@ -13,7 +13,7 @@ use Rattle.element.specs.KindLaws.{lawful}
 use Rattle.element.specs.{declared.kind.Kind.Kind, Kinds.arith_of, Kinds.view_of, Kinds.tiling_of, Kinds.depth_chunk}
 use Rattle.layout.specs.{declared.operand.Operand.Operand, Place.index_of, Place.based_at, NeedLaws.need_mono, NeedLaws.kind_sides}
 use Rattle.layout.specs.Tests.{outside_or_inside, meet_or_apart, none_large}
-use Rattle.layout.specs.BasedLaws.{based_inside, based_apart, based_long, inside_index, inside_apart}
+use Rattle.layout.proofs.BasedLaws.{based_inside, based_apart, based_long, inside_index, inside_apart}
 use Rattle.call.specs.declared.judge.{Matrices.Matrices, Lengths.Lengths}
 use Rattle.call.specs.Call.{Call, chunk, row_of, column_of, Does}
 use Rattle.call.specs.Verdict.{Far, SizesThen, InsideThen, CThen, ABThen, RoomThen, Judged, Verdict}
