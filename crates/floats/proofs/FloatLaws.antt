@@ -27,11 +27,11 @@ same_no_nan (fin s m x) e = tt
 
 -- ---- the float of a word
 
-is_nan : (x : Float) → is_nan x ≡ true → x ≡ nan
+nan_is : (x : Float) → is_nan x ≡ true → x ≡ nan
 unfolding is_nan
-is_nan nan e = refl
-is_nan (inf s) e = true_false (sym e)
-is_nan (fin s m x) e = true_false (sym e)
+nan_is nan e = refl
+nan_is (inf s) e = true_false (sym e)
+nan_is (fin s m x) e = true_false (sym e)
 
 pub pattern_float : (f : Format) (word : ℕ) → word < 2 * top f → of_bits f word ≡ float_of f word
 unfolding float_of
@@ -44,7 +44,7 @@ large_float f word h = ap (λ (b : Bool). cond b (of_bits f word) nan) (sym (le-
 pub nan_float : (f : Format) (word : ℕ) → word < 2 * top f → ones f * hid f < word % top f → nan ≡ float_of f word
 nan_float f word l h =
     let above : is_nan (of_bits f word) ≡ true = sym (nan_bits_is f word) ∙ nan_bits_above f word ∙ lt-ltb (ones f * hid f) (word % top f) h in
-    sym (is_nan (of_bits f word) above) ∙ pattern_float f word l
+    sym (nan_is (of_bits f word) above) ∙ pattern_float f word l
 
 -- ---- is a float the word's, y, which is w?
 

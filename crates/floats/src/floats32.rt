@@ -25,6 +25,7 @@ fn narrow(word: u64) -> u32
 }
 
 // The float whose pattern a word is, a NaN where it is none.
+#[tactic(auto, using(crate::proofs::FloatLaws::pattern_no_nan))]
 pub fn float_of(word: u64) -> f32
     ensures { result ≡ float_of binary32 word }
 {
@@ -38,6 +39,7 @@ pub fn float_of(word: u64) -> f32
 }
 
 // Does a word hold the pattern of a float, or of any NaN where the float is one?
+#[tactic(auto, using(crate::proofs::FloatLaws::same_no_nan))]
 fn matches(x: f32, word: u64) -> bool
     ensures { Tells result (x ≡ float_of binary32 word) }
 {

@@ -26,6 +26,7 @@ fn narrow(word: u64) -> u64
 }
 
 // The float whose pattern a word is, a NaN where it is none.
+#[tactic(auto, using(crate::proofs::FloatLaws::pattern_no_nan))]
 pub fn float_of(word: u64) -> f64
     ensures { result ≡ float_of binary64 word }
 {
@@ -39,6 +40,7 @@ pub fn float_of(word: u64) -> f64
 }
 
 // Does a word hold the pattern of a float, or of any NaN where the float is one?
+#[tactic(auto, using(crate::proofs::FloatLaws::same_no_nan))]
 fn matches(x: f64, word: u64) -> bool
     ensures { Tells result (x ≡ float_of binary64 word) }
 {

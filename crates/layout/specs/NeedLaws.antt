@@ -5,7 +5,7 @@ use Rattle.std.proofs.Common.{sym, ap, ◌∙◌, inl, inr, zero-le, le_trans, m
 use Rattle.std.proofs.Math.Nat.{min-le_left, min-le_right, le-min, div-eq_of_lt-le}
 use Rattle.refusal.specs.declared.Refusal.TheVariants.{TooLarge}
 use Rattle.refusal.specs.Numbers.{number_of}
-use Rattle.refusal.specs.NumberLaws.{same_refusal, refusal_not_zero}
+use Rattle.refusal.proofs.NumberLaws.{same_refusal, refusal_not_zero}
 use Rattle.refusal.specs.Order.{done}
 use Rattle.refusal.specs.OrderLaws.{One, one_done, first_stage}
 use Rattle.element.specs.declared.kind.Kind.{Kind}

@@ -6,7 +6,7 @@ use borrow.Rule.Slice.PartMut.{mid_of, put_mid}
 use Rattle.std.specs.Float.{nan}
 use Rattle.rules.specs.Element.{Fate, fate, put, chunk_sum, multiplier, chunks, chunk_length, after, element}
 use Rattle.rules.specs.Agree.{chunk_sum_agree}
-use Rattle.rules.specs.DepthLaws.{gathered, element_gathered}
+use Rattle.rules.proofs.DepthLaws.{gathered, element_gathered}
 use Rattle.rules.specs.Lists.{splice}
 use Rattle.rules.specs.ListLaws.{lent_from}
 use Rattle.rules.specs.Slice.{Updated}
@@ -16,7 +16,7 @@ use Rattle.element.specs.declared.kind.Kind.{Kind}
 use Rattle.layout.specs.declared.operand.Operand.{Operand}
 use Rattle.layout.specs.Place.{index_of, based_at, element_at}
 use Rattle.layout.specs.Operands.{transposed}
-use Rattle.layout.specs.BasedLaws.{index_based, place_transposed, readable_at, readable_transposed, writable_at}
+use Rattle.layout.proofs.BasedLaws.{index_based, place_transposed, readable_at, readable_transposed, writable_at}
 use Rattle.layout.specs.ChunkLaws.{chunk_start}
 use Rattle.layout.specs.NeedLaws.{kind_sides}
 use Rattle.loops.specs.Panels.{packing_of, padded, packed, unpacked}

@@ -4,7 +4,7 @@ use Rattle.std.proofs.Common.{sym, ap, ◌∙◌, subst, inl, inr, mul-le-mul, a
 use Rattle.std.proofs.lemmas.Bool.{eqb-false}
 use Rattle.refusal.specs.declared.Refusal.{Refusal}
 use Rattle.refusal.specs.Numbers.{number_of}
-use Rattle.refusal.specs.NumberLaws.{refusal_some}
+use Rattle.refusal.proofs.NumberLaws.{refusal_some}
 use Rattle.refusal.specs.Order.{Says, done}
 use Rattle.refusal.specs.OrderLaws.{One, Stage, refuses, one_done, first_stage, then_stage, first_passed}
 use Rattle.words.specs.Words.{number_at}

@@ -3,7 +3,7 @@ use Rattle.std.specs.Prelude.{ℕ, ◌≡◌, List, length, Float}
 use Rattle.std.proofs.Common.{sym, ap, ◌∙◌}
 use Rattle.std.specs.Float.{Format}
 use Rattle.refusal.specs.declared.Refusal.{Refusal}
-use Rattle.refusal.specs.NumberLaws.{same_refusal, refusal_not_zero}
+use Rattle.refusal.proofs.NumberLaws.{same_refusal, refusal_not_zero}
 use Rattle.refusal.specs.Order.{done}
 use Rattle.rules.specs.Lists.{splice}
 use Rattle.panel.specs.declared.file.Header.{Header}

@@ -2,7 +2,7 @@
 use Rattle.std.specs.Prelude.{ℕ, ◌≡◌, List, Float}
 use Rattle.std.proofs.Common.{sym, ap, ◌∙◌}
 use Rattle.refusal.specs.declared.Refusal.{Refusal}
-use Rattle.refusal.specs.NumberLaws.{same_refusal, refusal_not_zero}
+use Rattle.refusal.proofs.NumberLaws.{same_refusal, refusal_not_zero}
 use Rattle.panel.specs.declared.file.Shape.{Shape}
 use Rattle.panel.specs.declared.real32.ElementAnswer.{ElementAnswer}
 use Rattle.panel.specs.declared.real32.ElementAnswer.TheVariants.{Element, Refused}

@@ -6,15 +6,12 @@ pub mod Held
 pub mod ViewLaws
 pub mod SliceLaws
 pub mod StoreLaws
-pub mod DepthLaws
 pub mod Agree
 pub mod Portions
 pub mod Chain
-pub mod CuttingTheorem
 pub mod Pieces
 pub mod PieceLaws
 pub mod Grid
-pub mod GridLaws
 pub mod GridExamples
 pub mod Lists
 pub mod ListLaws

@@ -5,7 +5,7 @@ use Rattle.rules.specs.Element.{put}
 use Rattle.rules.specs.StoreLaws.{stored_place}
 use Rattle.element.specs.Complex32.{arith as ar, view, number, fate_of}
 use Rattle.layout.specs.Place.{index_of}
-use Rattle.layout.specs.BasedLaws.{index_lt, reached}
+use Rattle.layout.proofs.BasedLaws.{index_lt, reached}
 use Rattle.cgemm_kernel.proofs.put.put_one.Goals as goal
 use Rattle.cgemm_kernel.proofs.put.put_one.Goals.{After-place-at}
 

@@ -4,7 +4,7 @@ use mathlib.Core.Path.{sym, ◌∙◌, subst}
 use native.Mathlib.Omega.{arith}
 use borrow.Author.Rules.{rules}
 use lib.Ieee.{binary32}
-use Rattle.refusal.specs.NumberLaws.{refusal_not_zero}
+use Rattle.refusal.proofs.NumberLaws.{refusal_not_zero}
 use Rattle.floats.specs.NanLaws.{zero_by_zero}
 use Rattle.panel.specs.declared.real32.ElementAnswer.{ElementAnswer}
 use Rattle.panel.specs.Reader.{ElementSays}

@@ -4,7 +4,7 @@ use mathlib.Core.Path.{sym, ◌∙◌}
 use native.Mathlib.Omega.{arith}
 use borrow.Author.Rules.{rules}
 use Rattle.rules.specs.Element.{multiplier}
-use Rattle.rules.specs.DepthLaws.{multiplier_later}
+use Rattle.rules.proofs.DepthLaws.{multiplier_later}
 use Rattle.element.specs.Complex64.{arith as ar, number}
 use Rattle.zgemm_loops.proofs.outer.multiplier.Statement.{statement}
 use Rattle.zgemm_loops.proofs.outer.multiplier.Tie as tie
