@@ -3,7 +3,7 @@
 use Rattle.std.proofs.Common.{rules, ℕ, min, ◌*◌, ◌≡◌, ◌<◌, arith, ap, ◌∙◌}
 use Rattle.rules.specs.Element.{chunks}
 use Rattle.element.specs.Real64.{kind, tiling, number}
-use Rattle.layout.specs.{Need.round_up, Operands.Reachable}
+use Rattle.layout.specs.{Need.round_up, NeedLaws.round_lt, Operands.Reachable}
 use Rattle.loops.specs.Work.{front_room}
 use Rattle.loops.specs.Panels.{per_element}
 use Rattle.loops.specs.ColumnLoop.{front_room_lem, columns_done, column_asks, column_turn}
@@ -28,6 +28,10 @@ begins_b c = columns_reached c.requires.matrices.readable_b tiling.nc c.loop-j.j
 
 begins : (c : In-loop-j) → Reachable c.args.lc 0 (c.loop-j.j * tiling.nc)
 begins c = columns_reached c.requires.matrices.writable.readable tiling.nc c.loop-j.j (turn c)
+
+pub overflow_mul-asize : goal.overflow_mul-asize
+overflow_mul-asize c =
+    omega (arith, c.round_up_to-rows.ensures, round_lt c.least.result tiling.mr (omega arith), c.least.ensures)
 
 pub overflow_mul-asize-2 : goal.overflow_mul-asize-2
 overflow_mul-asize-2 c =
