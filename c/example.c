@@ -1,7 +1,8 @@
 /* Hewnspandrel from C. From the repository's root:
 
-     rt staticlib hewnspandrel
-     cc -Iinclude c/example.c target/staticlib/libhewnspandrel.a -o target/example
+     (cd crates/hewnspandrel && rt lib)
+     mkdir -p target
+     cc -Iinclude c/example.c crates/hewnspandrel/out/libhewnspandrel.a -o target/example
      target/example */
 #include "hewnspandrel.h"
 #include <stdio.h>

@@ -3,7 +3,8 @@
    outside the slices, or a store where none may be, ends this program. C is held against document 01's rules written out in C,
    everything else against what it was. From the repository's root:
 
-     cc -std=c99 -O2 -Iinclude c/guarded.c target/staticlib/libhewnspandrel.a -o target/guarded && target/guarded
+     mkdir -p target
+     cc -std=c99 -O2 -Iinclude c/guarded.c crates/hewnspandrel/out/libhewnspandrel.a -o target/guarded && target/guarded
 
    A sanitizer (-fsanitize=address,undefined) watches this program and the header, not the archive, which is not built with
    one: the pages watch that. */

@@ -1,7 +1,8 @@
 /* Panel files and panels whose slices lie against pages that nobody may touch, as guarded.c has them: the file cannot be
    written to, nor, where a read must be refused, the numbers. From the repository's root:
 
-     cc -std=c99 -O2 -Iinclude c/panels.c target/staticlib/libhewnspandrel.a -o target/panels && target/panels */
+     mkdir -p target
+     cc -std=c99 -O2 -Iinclude c/panels.c crates/hewnspandrel/out/libhewnspandrel.a -o target/panels && target/panels */
 #define PROGRAM "panels"
 enum { BYTES, NUMBERS, AREAS };
 #include "pages.h"

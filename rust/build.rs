@@ -1,8 +1,8 @@
 //! Finds the static library of the proved crates, or makes it, and has it linked.
 //!
 //! HEWNSPANDREL_LIB names the folder of libhewnspandrel.a, by its whole path. Where it is not set, or empty, the folder is
-//! target/staticlib of this repository, and `rt staticlib hewnspandrel` makes the library where it is missing or older
-//! than what it is made of: crates.txt and all below crates/.
+//! crates/hewnspandrel/out of this repository, and `rt lib` in crates/hewnspandrel makes the library where it is missing
+//! or older than what it is made of: crates.txt, and src, specs and proofs of each crate.
 
 use std::fs::{self, File, OpenOptions};
 use std::io::Write;
@@ -53,7 +53,7 @@ fn named(folder: PathBuf) -> PathBuf {
     folder
 }
 
-/// target/staticlib of the repository, with a library that is as new as its sources.
+/// crates/hewnspandrel/out of the repository, with a library that is as new as its sources.
 fn made() -> PathBuf {
     let here = PathBuf::from(env::var_os("CARGO_MANIFEST_DIR").unwrap());
     let repository = here.join("..").canonicalize().expect("the folder above this crate");
@@ -61,37 +61,45 @@ fn made() -> PathBuf {
     if !crates.is_dir() {
         stop(&format!("no proved crates beside this folder ({}): set HEWNSPANDREL_LIB to the folder of {LIBRARY}", crates.display()));
     }
-    let sources = [repository.join("crates.txt"), crates];
+    let sources = sources(&repository);
     for source in &sources {
         println!("cargo:rerun-if-changed={}", source.display());
     }
-    let library = repository.join("target/staticlib").join(LIBRARY);
+    let library_crate = crates.join("hewnspandrel");
+    let library = library_crate.join("out").join(LIBRARY);
     if is_old(&library, &sources) {
         let lock = lock(&repository.join("target"));
         // another build may have made it while this one waited
         if is_old(&library, &sources) {
             let state = if library.is_file() { "is older than its sources" } else { "does not exist yet" };
-            make(&repository, &format!("{} {state}", library.display()), lock);
+            make(&library_crate, &format!("{} {state}", library.display()), lock);
         }
     }
     if !library.is_file() {
-        stop(&format!("`rt staticlib hewnspandrel` ended well, but {} is not there", library.display()));
+        stop(&format!("`rt lib` ended well, but {} is not there", library.display()));
     }
-    repository.join("target/staticlib")
+    library_crate.join("out")
 }
 
-fn make(repository: &Path, cause: &str, lock: File) {
-    say(&format!("{cause}, so `rt staticlib hewnspandrel` makes it now: five to ten minutes where nothing is proved yet"));
+/// What the library is made of: crates.txt, and all of each crate but its `out`, which rt writes.
+fn sources(repository: &Path) -> Vec<PathBuf> {
+    let crates = fs::read_dir(repository.join("crates")).into_iter().flatten().flatten();
+    let parts = crates.flat_map(|one| ["src", "specs", "proofs"].map(|part| one.path().join(part)));
+    [repository.join("crates.txt")].into_iter().chain(parts.filter(|part| part.is_dir())).collect()
+}
+
+fn make(library_crate: &Path, cause: &str, lock: File) {
+    say(&format!("{cause}, so `rt lib` in {} makes it now: minutes where nothing is proved yet", library_crate.display()));
     let way_out = format!("or set HEWNSPANDREL_LIB to a folder that has {LIBRARY}, which is then taken as it is");
     let mut rt = Command::new("rt");
-    rt.args(["staticlib", "hewnspandrel"]).current_dir(repository);
+    rt.arg("lib").current_dir(library_crate);
     // what rt says is for people; cargo reads this script's output
     rt.stdout(io::stderr());
     // rt holds the lock too, so that it stays taken where this script is killed and rt runs on
     rt.stdin(lock);
     match rt.status() {
         Err(e) => stop(&format!("{cause}, and `rt` could not be started ({e}): put the Rattle kit's rt on PATH, {way_out}")),
-        Ok(s) if !s.success() => stop(&format!("{cause}, and `rt staticlib hewnspandrel` failed ({s}): read its words above, {way_out}")),
+        Ok(s) if !s.success() => stop(&format!("{cause}, and `rt lib` failed ({s}): read its words above, {way_out}")),
         Ok(_) => (),
     }
 }

@@ -1,14 +1,14 @@
 -- The ways in which an entry point ends: refused, with nothing to do, depth zero, and after its loops. Assumes nothing.
-use Rattle.std.specs.Prelude.{ℕ, zero, suc, ◌<◌}
+use Rattle.std.specs.Prelude.{ℕ, ◌<◌}
 use mathlib.Core.{Path.◌≡◌, Path.refl, Logic.◌⊎◌, Logic.inl, Logic.inr, List.List}
 use native.Mathlib.Omega.{arith}
 use lib.{ListN.length, Ieee.Float}
 use Rattle.refusal.specs.Order.{Says}
-use Rattle.rules.specs.{Element.Arith, Element.fate, Element.scaled, Element.element, Slice.Updated, Slice.Block}
-use Rattle.rules.specs.SliceLaws.{agreeing, untouched}
-use Rattle.element.specs.{declared.kind.Kind.Kind, Kinds.arith_of, Kinds.view_of, Kinds.tiling_of}
+use Rattle.rules.specs.{Slice.Block}
+use Rattle.rules.specs.SliceLaws.{untouched}
+use Rattle.element.specs.{declared.kind.Kind.Kind, Kinds.view_of, Kinds.tiling_of}
 use Rattle.layout.specs.{Place.index_of, Need.need_of}
-use Rattle.call.specs.{declared.answer.Answer.Answer, Call.Call, Call.chunk, Call.row_of, Call.column_of, Call.Does}
+use Rattle.call.specs.{declared.answer.Answer.Answer, Call.Call, Call.chunk, Call.Does}
 use Rattle.call.specs.Verdict.{lengths, Verdict}
 use Rattle.call.specs.Outcome.{answer_number, Leaves, Idle, Kept, PackLeft, Outcome}
 
@@ -24,13 +24,6 @@ left_done says does C D r v ok d = record { answer = v; refused = λ w. absurd (
 
 -- ---- the work of a call where a size is zero
 
--- rule 7, where the depth is known to be zero
-element_flat : (ar : Arith) (kc : ℕ) (alpha beta : ar.E) (a b : ℕ → ar.E) (k : ℕ) (x : ar.E) → k ≡ 0
-    → scaled ar (fate ar beta) x ≡ element ar kc alpha beta a b k x
-unfolding element
-element_flat ar kc alpha beta a b zero x e = refl
-element_flat ar kc alpha beta a b (suc k) x e = absurd (let z : ⊥ = omega arith in z)
-
 module _ {kind : Kind} (q : Call kind) (A B C : List Float) where
   pub does_empty : (q.over.m ≡ 0) ⊎ (q.over.n ≡ 0) → Does q A B C C
   unfolding Does
@@ -39,15 +32,6 @@ module _ {kind : Kind} (q : Call kind) (A B C : List Float) where
       never : (q.over.m ≡ 0) ⊎ (q.over.n ≡ 0) → (i j : ℕ) → Block q.over.m q.over.n i j → ⊥
       never (inl z) i j p = omega arith
       never (inr z) i j p = omega arith
-
-  pub does_flat : (D : List Float) → q.over.k ≡ 0
-      → Updated (view_of kind) (index_of q.over.c) (Block q.over.m q.over.n)
-      (λ i j. scaled (arith_of kind) (fate (arith_of kind) q.beta)) C D
-      → Does q A B C D
-  unfolding Does
-  does_flat D e u =
-      agreeing (view_of kind) (index_of q.over.c)
-      (λ i j o x. element_flat (arith_of kind) (chunk q) q.alpha q.beta (row_of q A i) (column_of q B j) q.over.k x e) u
 
 -- ---- the pack buffer, and a call's four ends: where a size is zero `out_idle` takes `does_empty` or `does_flat`
 

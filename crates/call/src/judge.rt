@@ -97,6 +97,7 @@ fn a_and_b(kind: Kind, q: Matrices, floats: Lengths) -> Answer
 }
 
 // The first refusal that applies, or Done; pack is the length of the pack buffer in floats.
+#[tactic(auto, unfolding(crate::specs::Verdict::Judged))]
 pub fn judge(kind: Kind, pack: usize, q: Matrices, floats: Lengths) -> Answer
     ensures { Judged kind pack q floats done (answer_number result) }
 {

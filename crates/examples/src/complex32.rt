@@ -2,9 +2,18 @@
 use cgemm::gemm::cgemm;
 use element::complex32::Complex32;
 use layout::operand::Operand;
+use std::io;
 
 // (1 + 2i) times (3 + 4i) over k depth steps, over C = (re, im).
-fn one(name: &[u8], k: usize, alpha: Complex32, beta: Complex32, re: f32, im: f32) {
+fn one(
+    rt: &impl Print,
+    name: &[u8],
+    k: usize,
+    alpha: Complex32,
+    beta: Complex32,
+    re: f32,
+    im: f32,
+) -> io::Result<()> {
     let a: [f32; 2] = [1.0, 2.0];
     let b: [f32; 2] = [3.0, 4.0];
     let mut c = [re, im];
@@ -15,20 +24,20 @@ fn one(name: &[u8], k: usize, alpha: Complex32, beta: Complex32, re: f32, im: f3
         cs: 1,
     };
     let r = cgemm(1, k, 1, alpha, &a, o, &b, o, beta, &mut c, o, &mut pack);
-    show::text(b"cgemm ");
-    show::text(name);
-    show::text(b" ");
-    show::whole(r.number());
-    show::text(b" ");
-    show::bits32(c[0]);
-    show::text(b" ");
-    show::bits32(c[1]);
-    show::text(b"\n");
+    show::text(rt, b"cgemm ")?;
+    show::text(rt, name)?;
+    show::text(rt, b" ")?;
+    show::whole(rt, r.number())?;
+    show::text(rt, b" ")?;
+    show::bits32(rt, c[0])?;
+    show::text(rt, b" ")?;
+    show::bits32(rt, c[1])?;
+    show::text(rt, b"\n")
 }
 
-pub fn both() {
+pub fn both(rt: &impl Print) -> io::Result<()> {
     let i = Complex32 { re: 0.0, im: 1.0 };
     let unit = Complex32::one();
-    one(b"P11", 1, i, Complex32::zero(), 0.0 / 0.0, 0.0 / 0.0);
-    one(b"P12", 0, unit, unit, 0.0, 1.0 / 0.0);
+    one(rt, b"P11", 1, i, Complex32::zero(), 0.0 / 0.0, 0.0 / 0.0)?;
+    one(rt, b"P12", 0, unit, unit, 0.0, 1.0 / 0.0)
 }

@@ -6,15 +6,16 @@ use element::kind::Kind;
 use layout::need::{PackLength, pack_length};
 use layout::operand::Operand;
 use sgemm::gemm::sgemm;
+use std::io;
 
-pub fn answered(name: &[u8], r: Answer) {
-    show::text(name);
-    show::text(b" ");
-    show::whole(r.number());
+pub fn answered(rt: &impl Print, name: &[u8], r: Answer) -> io::Result<()> {
+    show::text(rt, name)?;
+    show::text(rt, b" ")?;
+    show::whole(rt, r.number())
 }
 
 // An m by n C of so many elements, with these strides.
-fn collides(m: usize, n: usize, lc: Operand, c: &mut [f32]) {
+fn collides(rt: &impl Print, m: usize, n: usize, lc: Operand, c: &mut [f32]) -> io::Result<()> {
     let mut pack = [0.0f32; 16];
     let o = Operand {
         base: 0,
@@ -35,27 +36,27 @@ fn collides(m: usize, n: usize, lc: Operand, c: &mut [f32]) {
         lc,
         &mut pack,
     );
-    answered(b"sgemm places", r);
-    show::text(b"\n");
+    answered(rt, b"sgemm places", r)?;
+    show::text(rt, b"\n")
 }
 
 // What the need of an f32 call is, or that it is refused.
-fn need(m: usize, k: usize, n: usize) {
+fn need(rt: &impl Print, m: usize, k: usize, n: usize) -> io::Result<()> {
     match pack_length(Kind::F32, m, k, n) {
         PackLength::Refused(x) => {
-            show::text(b"sgemm need refused ");
-            show::whole(x.number());
+            show::text(rt, b"sgemm need refused ")?;
+            show::whole(rt, x.number())?;
         }
         PackLength::Elements(x) => {
-            show::text(b"sgemm need ");
-            show::whole(x as u64);
+            show::text(rt, b"sgemm need ")?;
+            show::whole(rt, x as u64)?;
         }
     }
-    show::text(b"\n");
+    show::text(rt, b"\n")
 }
 
 // m = 9, k = 300, n = 5 with a pack buffer of so many elements.
-fn packed(pack: &mut [f32]) {
+fn packed(rt: &impl Print, pack: &mut [f32]) -> io::Result<()> {
     let a = [1.0f32; 2700];
     let b = [1.0f32; 1500];
     let mut c = [0.0f32; 45];
@@ -70,17 +71,17 @@ fn packed(pack: &mut [f32]) {
         cs: 1,
     };
     let r = sgemm(9, 300, 5, 1.0, &a, la, &b, lb, 0.0, &mut c, lb, pack);
-    answered(b"sgemm pack", r);
-    show::text(b" ");
-    show::bits32(c[44]);
-    show::text(b"\n");
+    answered(rt, b"sgemm pack", r)?;
+    show::text(rt, b" ")?;
+    show::bits32(rt, c[44])?;
+    show::text(rt, b"\n")
 }
 
-pub fn all() {
-    reals32::downwards(2);
-    reals32::downwards(1);
-    reals64::downwards(2);
-    reals64::downwards(1);
+pub fn all(rt: &impl Print) -> io::Result<()> {
+    reals32::downwards(rt, 2)?;
+    reals32::downwards(rt, 1)?;
+    reals64::downwards(rt, 2)?;
+    reals64::downwards(rt, 1)?;
     let near = Operand {
         base: 0,
         rs: 1,
@@ -88,10 +89,11 @@ pub fn all() {
     };
     let mut five = [0.0f32; 5];
     let mut four = [0.0f32; 4];
-    collides(3, 2, near, &mut five);
-    collides(3, 2, near, &mut four);
-    collides(2, 2, near, &mut four);
+    collides(rt, 3, 2, near, &mut five)?;
+    collides(rt, 3, 2, near, &mut four)?;
+    collides(rt, 2, 2, near, &mut four)?;
     collides(
+        rt,
         2,
         2,
         Operand {
@@ -100,25 +102,26 @@ pub fn all() {
             cs: -2,
         },
         &mut five,
-    );
-    need(9, 300, 5);
+    )?;
+    need(rt, 9, 300, 5)?;
     let mut enough = [0.0f32; 6144];
     let mut short = [0.0f32; 6143];
-    packed(&mut enough);
-    packed(&mut short);
-    collides(65536, 2, near, &mut five);
-    collides(65537, 2, near, &mut five);
-    need(65536, 65536, 65536);
-    need(65537, 0, 0);
+    packed(rt, &mut enough)?;
+    packed(rt, &mut short)?;
+    collides(rt, 65536, 2, near, &mut five)?;
+    collides(rt, 65537, 2, near, &mut five)?;
+    need(rt, 65536, 65536, 65536)?;
+    need(rt, 65537, 0, 0)?;
     // one row, as from an array tool; two; and one row with the least isize
     let far = Operand {
         base: 0,
         rs: 1099511627776,
         cs: 1,
     };
-    collides(1, 5, far, &mut five);
-    collides(2, 2, far, &mut five);
+    collides(rt, 1, 5, far, &mut five)?;
+    collides(rt, 2, 2, far, &mut five)?;
     collides(
+        rt,
         1,
         5,
         Operand {
@@ -127,5 +130,5 @@ pub fn all() {
             cs: -1,
         },
         &mut five,
-    );
+    )
 }

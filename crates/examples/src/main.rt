@@ -8,14 +8,16 @@ mod layouts;
 mod reals32;
 mod reals64;
 
-fn main() {
-    reals32::one_to_five();
-    chunks::six_to_eight();
-    reals32::ten();
-    reals64::one_to_five();
-    chunks::nine();
-    reals64::ten();
-    complex32::both();
-    complex64::both();
-    layouts::all();
+use std::io;
+
+fn main(rt: HostRuntime) -> io::Result<()> {
+    reals32::one_to_five(&rt)?;
+    chunks::six_to_eight(&rt)?;
+    reals32::ten(&rt)?;
+    reals64::one_to_five(&rt)?;
+    chunks::nine(&rt)?;
+    reals64::ten(&rt)?;
+    complex32::both(&rt)?;
+    complex64::both(&rt)?;
+    layouts::all(&rt)
 }

@@ -2,9 +2,19 @@
 use crate::layouts::answered;
 use layout::operand::Operand;
 use sgemm::gemm::sgemm;
+use std::io;
 
 // One element: k depth steps of a and b over old.
-pub fn one(name: &[u8], k: usize, alpha: f32, a: &[f32], b: &[f32], beta: f32, old: f32) {
+pub fn one(
+    rt: &impl Print,
+    name: &[u8],
+    k: usize,
+    alpha: f32,
+    a: &[f32],
+    b: &[f32],
+    beta: f32,
+    old: f32,
+) -> io::Result<()> {
     let mut c = [old];
     let mut pack: [f32; 3072] = [0.0; 3072];
     let o = Operand {
@@ -13,37 +23,46 @@ pub fn one(name: &[u8], k: usize, alpha: f32, a: &[f32], b: &[f32], beta: f32, o
         cs: 1,
     };
     let r = sgemm(1, k, 1, alpha, a, o, b, o, beta, &mut c, o, &mut pack);
-    show::text(b"sgemm ");
-    show::text(name);
-    show::text(b" ");
-    show::whole(r.number());
-    show::text(b" ");
-    show::bits32(c[0]);
-    show::text(b"\n");
+    show::text(rt, b"sgemm ")?;
+    show::text(rt, name)?;
+    show::text(rt, b" ")?;
+    show::whole(rt, r.number())?;
+    show::text(rt, b" ")?;
+    show::bits32(rt, c[0])?;
+    show::text(rt, b"\n")
 }
 
 // The same where A and B are one number each. Apart, because a function takes the longer to check the more slices it makes.
-fn of_numbers(name: &[u8], k: usize, alpha: f32, a: f32, b: f32, beta: f32, old: f32) {
-    one(name, k, alpha, &[a], &[b], beta, old);
+fn of_numbers(
+    rt: &impl Print,
+    name: &[u8],
+    k: usize,
+    alpha: f32,
+    a: f32,
+    b: f32,
+    beta: f32,
+    old: f32,
+) -> io::Result<()> {
+    one(rt, name, k, alpha, &[a], &[b], beta, old)
 }
 
-pub fn one_to_five() {
+pub fn one_to_five(rt: &impl Print) -> io::Result<()> {
     let nan: f32 = 0.0 / 0.0;
     let inf: f32 = 1.0 / 0.0;
-    of_numbers(b"P1", 1, 2.0, 3.0, 5.0, 0.0, nan);
-    of_numbers(b"P2", 1, 2.0, 3.0, 5.0, -0.0, inf);
-    of_numbers(b"P3", 1, 2.0, 3.0, 5.0, 1.0, 1.0);
-    of_numbers(b"P4", 0, 1.0, 3.0, 5.0, 0.0, nan);
-    of_numbers(b"P5", 0, 1.0, 3.0, 5.0, 2.0, 3.0);
+    of_numbers(rt, b"P1", 1, 2.0, 3.0, 5.0, 0.0, nan)?;
+    of_numbers(rt, b"P2", 1, 2.0, 3.0, 5.0, -0.0, inf)?;
+    of_numbers(rt, b"P3", 1, 2.0, 3.0, 5.0, 1.0, 1.0)?;
+    of_numbers(rt, b"P4", 0, 1.0, 3.0, 5.0, 0.0, nan)?;
+    of_numbers(rt, b"P5", 0, 1.0, 3.0, 5.0, 2.0, 3.0)
 }
 
-pub fn ten() {
+pub fn ten(rt: &impl Print) -> io::Result<()> {
     let inf: f32 = 1.0 / 0.0;
-    of_numbers(b"P10", 1, 0.0, inf, 1.0, 0.0, 1.0);
+    of_numbers(rt, b"P10", 1, 0.0, inf, 1.0, 0.0, 1.0)
 }
 
 // A = 1, 2, 3 times B = 1 into three elements that lie downwards from base.
-pub fn downwards(base: usize) {
+pub fn downwards(rt: &impl Print, base: usize) -> io::Result<()> {
     let a: [f32; 3] = [1.0, 2.0, 3.0];
     let b: [f32; 1] = [1.0];
     let mut c: [f32; 3] = [7.0, 7.0, 7.0];
@@ -59,12 +78,12 @@ pub fn downwards(base: usize) {
         cs: 1,
     };
     let r = sgemm(3, 1, 1, 1.0, &a, la, &b, la, 0.0, &mut c, lc, &mut pack);
-    answered(b"sgemm downwards", r);
-    show::text(b" ");
-    show::bits32(c[0]);
-    show::text(b" ");
-    show::bits32(c[1]);
-    show::text(b" ");
-    show::bits32(c[2]);
-    show::text(b"\n");
+    answered(rt, b"sgemm downwards", r)?;
+    show::text(rt, b" ")?;
+    show::bits32(rt, c[0])?;
+    show::text(rt, b" ")?;
+    show::bits32(rt, c[1])?;
+    show::text(rt, b" ")?;
+    show::bits32(rt, c[2])?;
+    show::text(rt, b"\n")
 }

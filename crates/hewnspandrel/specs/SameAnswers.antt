@@ -8,7 +8,7 @@ use Rattle.layout.specs.NeedLaws.{pack_length_same}
 use Rattle.call.specs.Call.{Call}
 use Rattle.call.specs.Outcome.{answer_number}
 use Rattle.call.specs.Statements.{OnePack}
-use Rattle.call.specs.OneOutcome.{one_outcome}
+use Rattle.call.proofs.OneOutcome.{one_outcome}
 use Rattle.panel.specs.declared.file.Shape.{Shape}
 use Rattle.panel.specs.OneOutcome.{one_read_outcome}
 use Rattle.panel.specs.ReadLaws.{one_place}

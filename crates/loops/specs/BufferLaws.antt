@@ -1,6 +1,6 @@
 -- Laws of the pack buffer: what is kept where a part is written, what the panels hold in front of asize and behind it, how it is shared.
 -- Assumes nothing.
-use Rattle.std.specs.Prelude.{◌≡◌, refl, List, ℕ, min, ◌+◌, ◌-◌, ◌*◌, ◌<◌, ◌≤◌, length, get_or, drop, Float}
+use Rattle.std.specs.Prelude.{◌≡◌, refl, List, ℕ, min, ◌+◌, ◌*◌, ◌<◌, ◌≤◌, length, get_or, drop, Float}
 use Rattle.std.proofs.Common.{sym, ap, ◌∙◌, mul-le-mul_right, mul-le-mul_left, arith, get_or-drop}
 use Rattle.std.specs.Float.{nan}
 use Rattle.rules.specs.Element.{chunks}

@@ -12,7 +12,7 @@ use Rattle.element.specs.declared.kind.Kind.{Kind}
 use Rattle.element.specs.declared.kind.Kind.TheVariants.{F32, F64, C32, C64}
 use Rattle.layout.specs.declared.operand.Operand.{Operand}
 use Rattle.layout.specs.Place.{index_of, based_at, element_at}
-use Rattle.layout.specs.BasedLaws.{index_based}
+use Rattle.layout.proofs.BasedLaws.{index_based}
 use Rattle.layout.specs.ChunkLaws.{chunk_start}
 use Rattle.layout.specs.Need.{round_up, need_of}
 use Rattle.layout.specs.NeedLaws.{need_some_lem, kind_sides}

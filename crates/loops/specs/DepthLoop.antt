@@ -16,7 +16,7 @@ use Rattle.element.specs.declared.kind.Kind.{Kind}
 use Rattle.layout.specs.declared.operand.Operand.{Operand}
 use Rattle.layout.specs.Place.{index_of, based_at, element_at}
 use Rattle.layout.specs.Operands.{transposed}
-use Rattle.layout.specs.BasedLaws.{index_based, place_transposed, readable_at, readable_transposed, writable_at}
+use Rattle.layout.proofs.BasedLaws.{index_based, place_transposed, readable_at, readable_transposed, writable_at}
 use Rattle.layout.specs.ChunkLaws.{chunk_start}
 use Rattle.layout.specs.NeedLaws.{kind_sides}
 use Rattle.loops.specs.Panels.{packing_of, padded, packed, unpacked}

@@ -10,7 +10,7 @@ use Rattle.rules.specs.ViewLaws.{Lawful}
 use Rattle.layout.specs.declared.operand.Operand.{Operand}
 use Rattle.layout.specs.Place.{index_of, based_at}
 use Rattle.layout.specs.Operands.{Writable}
-use Rattle.layout.specs.BasedLaws.{rows_more, columns_more}
+use Rattle.layout.proofs.BasedLaws.{rows_more, columns_more}
 use Rattle.layout.specs.ChunkLaws.{chunk_start, chunk_end, chunk_inside, chunk_some, chunk_width}
 use Rattle.loops.specs.Panels.{Packing, unpacked}
 use Rattle.loops.specs.PanelLaws.{panel_lane, rest_all, panels_all}

@@ -4,7 +4,7 @@ use Rattle.std.proofs.Common.{ap, ◌∙◌, mul-zero, mul-one, arith}
 use Rattle.layout.specs.declared.operand.Operand.{Operand}
 use Rattle.layout.specs.Place.{place_of, index_of}
 use Rattle.layout.specs.Operands.{Readable}
-use Rattle.layout.specs.BasedLaws.{index_lt}
+use Rattle.layout.proofs.BasedLaws.{index_lt}
 use Rattle.layout.specs.Splits.{up, dn}
 use Rattle.layout.specs.Signs.{abs_is, place_bal, inside_is}
 

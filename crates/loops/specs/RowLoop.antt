@@ -9,7 +9,7 @@ use Rattle.element.specs.Kinds.{arith_of, view_of, tiling_of}
 use Rattle.element.specs.declared.kind.Kind.{Kind}
 use Rattle.layout.specs.declared.operand.Operand.{Operand}
 use Rattle.layout.specs.Place.{index_of, based_at, element_at}
-use Rattle.layout.specs.BasedLaws.{index_based}
+use Rattle.layout.proofs.BasedLaws.{index_based}
 use Rattle.layout.specs.ChunkLaws.{chunk_start}
 use Rattle.layout.specs.NeedLaws.{kind_sides}
 use Rattle.loops.specs.Panels.{packing_of, unpacked}

@@ -7,7 +7,7 @@ use Rattle.layout.specs.declared.operand.Operand.{Operand}
 use Rattle.layout.specs.Place.{based_at}
 use Rattle.layout.specs.Operands.{Reachable, Readable, Writable}
 use Rattle.layout.specs.ChunkLaws.{chunk_start, chunk_some, chunk_inside, chunk_width}
-use Rattle.layout.specs.BasedLaws.{reached, readable_based, readable_at, writable_based, writable_at}
+use Rattle.layout.proofs.BasedLaws.{reached, readable_based, readable_at, writable_based, writable_at}
 use Rattle.loops.specs.Work.{Turns}
 
 -- ---- what is kept, before the first turn and after one more

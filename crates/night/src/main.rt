@@ -12,6 +12,10 @@ use layout::need::{PackLength, pack_length};
 use layout::operand::Operand;
 use panel::file::{PanelAnswer, Shape};
 use panel::real64::read_f64;
+use std::fs::File;
+use std::io;
+use std::io::Read;
+use std::rt::Files;
 
 const INVERTERS: usize = 4;
 
@@ -67,107 +71,116 @@ fn scored(
     )
 }
 
-fn show_inverter(scores: &Scores, i: usize)
+fn show_inverter(rt: &impl Print, scores: &Scores, i: usize) -> io::Result<()>
     requires { i < 4 }
 {
-    show::text(b"  inverter ");
-    show::whole(i as u64 + 1);
-    show::text(b"   ready ");
-    show::hundredths(scores[i * SCORES]);
-    show::text(b"   strain ");
-    show::hundredths(scores[i * SCORES + 1]);
-    show::text(b"\n");
+    show::text(rt, b"  inverter ")?;
+    show::whole(rt, i as u64 + 1)?;
+    show::text(rt, b"   ready ")?;
+    show::hundredths(rt, scores[i * SCORES])?;
+    show::text(rt, b"   strain ")?;
+    show::hundredths(rt, scores[i * SCORES + 1])?;
+    show::text(rt, b"\n")
 }
 
-fn show_scores(scores: &Scores) {
-    show_inverter(scores, 0);
-    show_inverter(scores, 1);
-    show_inverter(scores, 2);
-    show_inverter(scores, 3);
+fn show_scores(rt: &impl Print, scores: &Scores) -> io::Result<()> {
+    show_inverter(rt, scores, 0)?;
+    show_inverter(rt, scores, 1)?;
+    show_inverter(rt, scores, 2)?;
+    show_inverter(rt, scores, 3)
 }
 
-fn show_answer(r: Answer) {
-    show::text(b"  ");
+fn show_answer(rt: &impl Print, r: Answer) -> io::Result<()> {
+    show::text(rt, b"  ")?;
     match r {
-        Answer::Done => show::text(b"done"),
-        Answer::Refused(x) => show::refusal(x),
+        Answer::Done => show::text(rt, b"done")?,
+        Answer::Refused(x) => show::refusal(rt, x)?,
     }
-    show::text(b"\n");
+    show::text(rt, b"\n")
 }
 
-fn show_need() {
+fn show_need(rt: &impl Print) -> io::Result<()> {
     match pack_length(Kind::F64, INVERTERS, READINGS, SCORES) {
-        PackLength::Refused(x) => show::refusal(x),
+        PackLength::Refused(x) => show::refusal(rt, x)?,
         PackLength::Elements(x) => {
-            show::text(b"the pack buffer needs ");
-            show::whole(x as u64);
-            show::text(b" elements");
+            show::text(rt, b"the pack buffer needs ")?;
+            show::whole(rt, x as u64)?;
+            show::text(rt, b" elements")?;
         }
     }
-    show::text(b"\n\n");
+    show::text(rt, b"\n\n")
 }
 
 // The rule of six o'clock: no comparison with a gap holds.
-fn show_pick(scores: &Scores, i: usize)
+fn show_pick(rt: &impl Print, scores: &Scores, i: usize) -> io::Result<()>
     requires { i < 4 }
 {
-    show::text(b"  inverter ");
-    show::whole(i as u64 + 1);
+    show::text(rt, b"  inverter ")?;
+    show::whole(rt, i as u64 + 1)?;
     if scores[i * SCORES] > 100.0 {
-        show::text(b" is flashed\n");
+        show::text(rt, b" is flashed\n")
     } else {
-        show::text(b" waits\n");
+        show::text(rt, b" waits\n")
     }
 }
 
-fn show_shape(s: Shape) {
-    show::whole(s.rows as u64);
-    show::text(b" rows, ");
-    show::whole(s.columns as u64);
-    show::text(b" columns\n");
+fn show_shape(rt: &impl Print, s: Shape) -> io::Result<()> {
+    show::whole(rt, s.rows as u64)?;
+    show::text(rt, b" rows, ")?;
+    show::whole(rt, s.columns as u64)?;
+    show::text(rt, b" columns\n")
 }
 
 // Reads a file's bytes into numbers, and answers the shape of what these then hold: the file's, or the old one where nothing was stored.
-fn take(bytes: &[u8], numbers: &mut [f64], old: Shape) -> Shape {
+fn take(rt: &impl Print, bytes: &[u8], numbers: &mut [f64], old: Shape) -> io::Result<Shape> {
     let answer = read_f64(bytes, numbers);
     match answer {
         PanelAnswer::Read(h) => {
             let shape = h.shape;
-            show_shape(shape);
-            shape
+            show_shape(rt, shape)?;
+            Ok(shape)
         }
         PanelAnswer::Refused(x) => {
-            show::refusal(x);
-            show::text(b"\n  nothing was stored\n");
-            old
+            show::refusal(rt, x)?;
+            show::text(rt, b"\n  nothing was stored\n")?;
+            Ok(old)
         }
     }
 }
 
 // The same of an open file.
-fn take_file(file: i32, numbers: &mut [f64], old: Shape) -> Shape {
-    let mut bytes = io::buffer();
-    let got = io::read_full(file, &mut bytes);
+fn take_file(
+    rt: &impl Print,
+    file: &mut impl Read,
+    numbers: &mut [f64],
+    old: Shape,
+) -> io::Result<Shape> {
+    let mut bytes = [0u8; 4096];
+    let got = show::read_full(file, &mut bytes)?;
     if got == bytes.len() {
-        show::text(b"the file is too long\n");
-        return old;
+        show::text(rt, b"the file is too long\n")?;
+        return Ok(old);
     }
-    take(&bytes[..got], numbers, old)
+    take(rt, &bytes[..got], numbers, old)
 }
 
 // The same of a file by its name.
-fn take_named(path: &[u8], numbers: &mut [f64], old: Shape) -> Shape {
-    show::text(b"  ");
-    show::text(path);
-    show::text(b": ");
-    let file = os::open_read(path);
-    if file < 0 {
-        show::text(b"the file cannot be opened\n");
-        return old;
+fn take_named(
+    rt: &(impl Files + Print),
+    path: &str,
+    numbers: &mut [f64],
+    old: Shape,
+) -> io::Result<Shape> {
+    show::text(rt, b"  ")?;
+    show::text(rt, path.as_bytes())?;
+    show::text(rt, b": ")?;
+    match File::open(rt, path) {
+        Ok(mut file) => take_file(rt, &mut file, numbers, old),
+        Err(_) => {
+            show::text(rt, b"the file cannot be opened\n")?;
+            Ok(old)
+        }
     }
-    let shape = take_file(file, numbers, old);
-    libc::close(file);
-    shape
 }
 
 fn is_shape(s: Shape, rows: usize, columns: usize) -> bool {
@@ -189,28 +202,43 @@ fn are_shapes(telemetry: Shape, coefficients: Shape, correction: Shape) -> bool 
 }
 
 // Scores, corrects and picks.
-fn night(readings: &Telemetry, coefficients: &Coefficients, correction: &Telemetry) {
+fn night(
+    rt: &impl Print,
+    readings: &Telemetry,
+    coefficients: &Coefficients,
+    correction: &Telemetry,
+) -> io::Result<()> {
     let mut scores = [0.0f64; 8];
-    show::text(b"\ntelemetry times coefficients (a reading of inverter 3 is a gap)\n");
-    show_answer(scored(readings, coefficients, 0.0, &mut scores, 0));
-    show_scores(&scores);
-    show::text(b"\na late correction for inverter 2, multiplied and added\n");
-    show_answer(scored(correction, coefficients, 1.0, &mut scores, 0));
-    show_scores(&scores);
-    show::text(b"\nthe same correction, laid over the wrong base: one element too far\n");
-    show_answer(scored(correction, coefficients, 1.0, &mut scores, 1));
-    show::text(b"  nothing was stored:\n");
-    show_scores(&scores);
     show::text(
+        rt,
+        b"\ntelemetry times coefficients (a reading of inverter 3 is a gap)\n",
+    )?;
+    show_answer(rt, scored(readings, coefficients, 0.0, &mut scores, 0))?;
+    show_scores(rt, &scores)?;
+    show::text(
+        rt,
+        b"\na late correction for inverter 2, multiplied and added\n",
+    )?;
+    show_answer(rt, scored(correction, coefficients, 1.0, &mut scores, 0))?;
+    show_scores(rt, &scores)?;
+    show::text(
+        rt,
+        b"\nthe same correction, laid over the wrong base: one element too far\n",
+    )?;
+    show_answer(rt, scored(correction, coefficients, 1.0, &mut scores, 1))?;
+    show::text(rt, b"  nothing was stored:\n")?;
+    show_scores(rt, &scores)?;
+    show::text(
+        rt,
         b"\nSix o'clock: an inverter is flashed where its ready score is above 100; a gap is not\n",
-    );
-    show_pick(&scores, 0);
-    show_pick(&scores, 1);
-    show_pick(&scores, 2);
-    show_pick(&scores, 3);
+    )?;
+    show_pick(rt, &scores, 0)?;
+    show_pick(rt, &scores, 1)?;
+    show_pick(rt, &scores, 2)?;
+    show_pick(rt, &scores, 3)
 }
 
-fn main() {
+fn main(rt: HostRuntime) -> io::Result<()> {
     let mut readings = [0.0f64; 12];
     let mut coefficients = [0.0f64; 6];
     let mut correction = [0.0f64; 12];
@@ -218,20 +246,29 @@ fn main() {
         rows: 0,
         columns: 0,
     };
-    show::text(b"Five o'clock: 4 inverters, 3 readings each, 2 scores; ");
-    show_need();
-    show::text(b"panels from files\n");
-    let first = take_named(b"telemetry.ivp", &mut readings, none);
-    let known = take_named(b"coefficients.ivp", &mut coefficients, none);
-    let late = take_named(b"late.ivp", &mut correction, none);
-    show::text(b"\ntelemetry sent once more, but cut short on its way\n");
-    let telemetry = take_named(b"damaged.ivp", &mut readings, first);
+    show::text(
+        &rt,
+        b"Five o'clock: 4 inverters, 3 readings each, 2 scores; ",
+    )?;
+    show_need(&rt)?;
+    show::text(&rt, b"panels from files\n")?;
+    let first = take_named(&rt, "telemetry.ivp", &mut readings, none)?;
+    let known = take_named(&rt, "coefficients.ivp", &mut coefficients, none)?;
+    let late = take_named(&rt, "late.ivp", &mut correction, none)?;
+    show::text(
+        &rt,
+        b"\ntelemetry sent once more, but cut short on its way\n",
+    )?;
+    let telemetry = take_named(&rt, "damaged.ivp", &mut readings, first)?;
     if are_shapes(telemetry, known, late) {
-        night(&readings, &coefficients, &correction);
-    } else {
-        show::text(
-            b"\nno scores: telemetry and late are to have 4 rows, 3 columns, coefficients 3 rows, 2 columns;",
-        );
-        show::text(b"\nthe night's files are in crates/night/data, where ./run runs it\n");
+        return night(&rt, &readings, &coefficients, &correction);
     }
+    show::text(
+        &rt,
+        b"\nno scores: telemetry and late are to have 4 rows, 3 columns, coefficients 3 rows, 2 columns;",
+    )?;
+    show::text(
+        &rt,
+        b"\nthe night's files are in crates/night/data, where ./run runs it\n",
+    )
 }

@@ -7,20 +7,20 @@ ghost use Rattle.sample.specs.declared.calls.Comparison.{Comparison};
 ghost use Rattle.replayed.specs.Replayed.{kind_of, pack_of, lengths_of, Replayed};
 ghost use Rattle.replay.specs.File.{ContentsAre, Agreeing, Counted};
 
-use libc::STDOUT_FILENO;
 use replayed::{reals32, reals64};
 use sample::calls::{Comparison, KIND, first_call};
+use std::fs::File;
+use std::io;
+use std::io::Read;
 use words::{after, from_bytes, word_at};
+
+const PATH: &str = "sample.words";
 
 // How many calls the words hold, or the number of the one that is cut short or malformed.
 #[derive(Drop)]
 enum Contents {
     Calls(u64),
     Malformed(u64),
-}
-
-fn print(text: &[u8]) {
-    io::write_all(STDOUT_FILENO, text);
 }
 
 fn contents_of(words: &[u64]) -> Contents
@@ -39,27 +39,18 @@ fn contents_of(words: &[u64]) -> Contents
     Contents::Calls(number)
 }
 
-fn print_call(number: u64) {
-    print(b"call ");
-    io::print_decimal(STDOUT_FILENO, number);
-}
-
-// Does the call agree? Where it does not, says what disagrees.
-fn report(number: u64, found: Comparison) -> bool
+// Does the call agree? Where it does not, says what disagrees; a line that cannot be written is lost, and the call disagrees all the same.
+fn report(rt: &impl Print, number: u64, found: Comparison) -> bool
     ensures { Tells result (found ≡ Comparison.Agrees) }
 {
     match found {
         Comparison::Agrees => true,
         Comparison::Answer => {
-            print_call(number);
-            print(b" disagrees: answer\n");
+            let _written = println!(rt; "call {number} disagrees: answer");
             false
         }
         Comparison::Place(place) => {
-            print_call(number);
-            print(b" disagrees: place ");
-            io::print_decimal(STDOUT_FILENO, place as u64);
-            print(b"\n");
+            let _written = println!(rt; "call {number} disagrees: place {place}");
             false
         }
     }
@@ -76,17 +67,17 @@ fn replay(call: &[u64]) -> Comparison
 }
 
 // Is a call of the kind, and does it agree? Where it disagrees, it is reported under its number.
-fn agrees(call: &[u64], kind: u64, number: u64) -> bool
+fn agrees(rt: &impl Print, call: &[u64], kind: u64, number: u64) -> bool
     ensures { Tells result (Agreeing kind call.now) }
 {
     if word_at(call, KIND) != kind {
         return false;
     }
-    report(number, replay(call))
+    report(rt, number, replay(call))
 }
 
 // Replays the calls of a kind, and answers how many agree.
-fn agreeing(words: &[u64], kind: u64) -> u64
+fn agreeing(rt: &impl Print, words: &[u64], kind: u64) -> u64
     ensures { Counted kind words.now result }
 {
     let mut agreed = 0;
@@ -98,7 +89,7 @@ fn agreeing(words: &[u64], kind: u64) -> u64
         if size == 0 {
             return agreed;
         }
-        if agrees(call, kind, number) {
+        if agrees(rt, call, kind, number) {
             agreed += 1;
         }
         at += size;
@@ -107,73 +98,60 @@ fn agreeing(words: &[u64], kind: u64) -> u64
     agreed
 }
 
-fn summarise(words: &[u64], kind: u64, name: &[u8]) {
-    let agreed = agreeing(words, kind);
-    print(name);
-    print(b": ");
-    io::print_decimal(STDOUT_FILENO, agreed);
-    print(b" calls agree\n");
+fn summarise(rt: &impl Print, words: &[u64], kind: u64, name: &str) -> io::Result<()> {
+    let agreed = agreeing(rt, words, kind);
+    println!(rt; "{name}: {agreed} calls agree")
 }
 
-fn summarise_all(words: &[u64]) {
+fn summarise_all(rt: &impl Print, words: &[u64]) -> io::Result<()> {
     match contents_of(words) {
         Contents::Calls(calls) => {
-            summarise(words, 0, b"sgemm");
-            summarise(words, 1, b"dgemm");
-            summarise(words, 2, b"cgemm");
-            summarise(words, 3, b"zgemm");
-            io::print_decimal(STDOUT_FILENO, calls);
-            print(b" calls in all\n");
+            summarise(rt, words, 0, "sgemm")?;
+            summarise(rt, words, 1, "dgemm")?;
+            summarise(rt, words, 2, "cgemm")?;
+            summarise(rt, words, 3, "zgemm")?;
+            println!(rt; "{calls} calls in all")
         }
-        Contents::Malformed(number) => {
-            print_call(number);
-            print(b" is cut short or malformed\n");
-        }
+        Contents::Malformed(number) => println!(rt; "call {number} is cut short or malformed"),
     }
 }
 
-fn replay_words(words: &[u64], bytes: usize) {
+fn replay_words(rt: &impl Print, words: &[u64], bytes: usize) -> io::Result<()> {
     if bytes % 8 != 0 {
-        print(b"the file is cut short within a word\n");
-        return;
+        return println!(rt; "the file is cut short within a word");
     }
     let count = bytes / 8;
     if count >= words.len() {
-        print(b"the file is too long\n");
-        return;
+        return println!(rt; "the file is too long");
     }
-    summarise_all(&words[0..count]);
+    summarise_all(rt, &words[0..count])
 }
 
 // Reads a file into words, 512 at a time, and answers how many bytes it has, or how many were read where it is longer.
-fn read_words(file: i32, words: &mut [u64]) -> usize {
+fn read_words(file: &mut impl Read, words: &mut [u64]) -> io::Result<usize> {
     let mut bytes = [0u8; 4096];
     let mut at = 0;
     while at + 512 <= words.len() {
         let end = at + 512;
-        let got = io::read_full(file, &mut bytes);
+        let got = show::read_full(file, &mut bytes)?;
         from_bytes(&bytes, &mut words[at..end]);
         if got < 4096 {
-            return 8 * at + got;
+            return Ok(8 * at + got);
         }
         at = end;
     }
-    8 * at
+    Ok(8 * at)
 }
 
-fn replay_file(file: i32) {
+fn replay_file(rt: &impl Print, file: &mut impl Read) -> io::Result<()> {
     let mut words = [0u64; 32768];
-    let bytes = read_words(file, &mut words);
-    replay_words(&words, bytes);
+    let bytes = read_words(file, &mut words)?;
+    replay_words(rt, &words, bytes)
 }
 
-fn main() {
-    let path = b"sample.words";
-    let file = os::open_read(path);
-    if file < 0 {
-        os::fail(path);
-        return;
+fn main(rt: HostRuntime) -> io::Result<()> {
+    match File::open(&rt, PATH) {
+        Ok(mut file) => replay_file(&rt, &mut file),
+        Err(e) => eprintln!(rt; "{PATH}: {e}"),
     }
-    replay_file(file);
-    libc::close(file);
 }

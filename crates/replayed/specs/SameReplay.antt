@@ -10,7 +10,7 @@ use Rattle.call.specs.Call.{Call, Does}
 use Rattle.call.specs.Verdict.{lengths, Verdict}
 use Rattle.call.specs.Outcome.{answer_number, Leaves, Outcome}
 use Rattle.call.specs.OneOutcome.{one_left, verdict_one}
-use Rattle.call.specs.PieceLaws.{does_same}
+use Rattle.call.proofs.PieceLaws.{does_same}
 use Rattle.sample.specs.declared.calls.Comparison.{Comparison}
 use Rattle.replayed.specs.Replayed.{format_of, recorded, Compared, Replayed}
 

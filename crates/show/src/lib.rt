@@ -1,36 +1,49 @@
-// How the programs write: text, whole numbers, floats by their bits or with two decimals, and what a refusal means.
+// How the programs read and write: a file's bytes; text, whole numbers, floats by their bits or with two decimals, what a refusal
+// means.
 #![tactic(auto)]
 
-use libc::STDOUT_FILENO;
+ghost use Rattle.std.specs.Prelude.{◌≤◌, IfOk, length};
+
 use refusal::Refusal;
+use std::io;
+use std::io::Read;
 
-pub fn text(s: &[u8]) {
-    let _written = io::write_all(STDOUT_FILENO, s);
+// Reads until the buffer is full or the file ends, and answers how many bytes it has put at the buffer's start.
+pub fn read_full(file: &mut impl Read, buffer: &mut [u8]) -> io::Result<usize>
+    ensures { IfOk result (λ n. n ≤ length buffer.new) }
+{
+    let mut done = 0;
+    while done < buffer.len() {
+        let got = file.read(&mut buffer[done..])?;
+        if got == 0 {
+            return Ok(done);
+        }
+        done += got;
+    }
+    Ok(done)
 }
 
-pub fn whole(n: u64) {
-    let _written = io::print_decimal(STDOUT_FILENO, n);
+pub fn text(rt: &impl Print, s: &[u8]) -> io::Result<()> {
+    rt.write_all(s)
 }
 
-fn wide(n: u32) -> u64 {
-    n as u64
+pub fn whole(rt: &impl Print, n: u64) -> io::Result<()> {
+    print!(rt; "{n}")
 }
 
 // The bits of x, or nan.
-pub fn bits32(x: f32) {
-    if x != x {
-        text(b"nan");
-    } else {
-        let _written = io::print_hex(STDOUT_FILENO, wide(f32::to_bits(x)), 8);
+pub fn bits32(rt: &impl Print, x: f32) -> io::Result<()> {
+    if x.is_nan() {
+        return text(rt, b"nan");
     }
+    print!(rt; "{:08x}", f32::to_bits(x))
 }
 
-pub fn bits64(x: f64) {
-    if x != x {
-        text(b"nan");
-    } else {
-        let _written = io::print_hex(STDOUT_FILENO, f64::to_bits(x), 16);
+pub fn bits64(rt: &impl Print, x: f64) -> io::Result<()> {
+    if x.is_nan() {
+        return text(rt, b"nan");
     }
+    print!(rt; "{:016x}", f64::to_bits(x))
 }
 
 // x in hundredths, rounded half up; 0 for what is too large, below 0 or NaN.
@@ -45,51 +58,42 @@ fn in_hundredths(x: f64) -> u64 {
 }
 
 // x with two decimals; a gap where it is NaN.
-pub fn hundredths(x: f64) {
-    if x != x {
-        text(b"gap");
-        return;
+pub fn hundredths(rt: &impl Print, x: f64) -> io::Result<()> {
+    if x.is_nan() {
+        return text(rt, b"gap");
     }
     let mut y = x;
     if x < 0.0 {
-        text(b"-");
+        text(rt, b"-")?;
         y = -x;
     }
     let n = in_hundredths(y);
-    whole(n / 100);
-    text(b".");
-    whole(n / 10 % 10);
-    whole(n % 10);
+    print!(rt; "{}.{}{}", n / 100, n / 10 % 10, n % 10)
 }
 
 // What a refusal means, in the words of the C header.
-fn meaning(x: Refusal) {
+fn meaning(x: Refusal) -> &'static str {
     match x {
-        Refusal::TooLarge => text(b"m, k or n is above 65,536"),
-        Refusal::TooFar => text(
-            b"a stride of A, B or C along an axis of two or more entries is above 2,147,483,648 in magnitude",
-        ),
-        Refusal::OutsideC => text(b"a place of C is outside C's slice"),
-        Refusal::CollidesC => text(b"two different places of C are the same element"),
-        Refusal::OutsideA => text(b"a place of A is outside A's slice"),
-        Refusal::OutsideB => text(b"a place of B is outside B's slice"),
-        Refusal::PackShort => text(b"the pack buffer is shorter than the need"),
-        Refusal::FileShort => text(b"the file has fewer than ten bytes"),
-        Refusal::WrongMark => text(b"the file does not begin with the mark IVP"),
-        Refusal::UnknownVersion => text(b"the file's version is not known"),
-        Refusal::WrongKind => text(b"the file's kind is not the one asked for"),
-        Refusal::WrongLength => text(b"the file's length is not what its rows and columns say"),
-        Refusal::NoRoom => text(b"the destination is shorter than the panel"),
-        Refusal::OutsidePanel => text(
-            b"the place is outside the panel's shape or beyond its numbers",
-        ),
+        Refusal::TooLarge => "m, k or n is above 65,536",
+        Refusal::TooFar => {
+            "a stride of A, B or C along an axis of two or more entries is above 2,147,483,648 in magnitude"
+        }
+        Refusal::OutsideC => "a place of C is outside C's slice",
+        Refusal::CollidesC => "two different places of C are the same element",
+        Refusal::OutsideA => "a place of A is outside A's slice",
+        Refusal::OutsideB => "a place of B is outside B's slice",
+        Refusal::PackShort => "the pack buffer is shorter than the need",
+        Refusal::FileShort => "the file has fewer than ten bytes",
+        Refusal::WrongMark => "the file does not begin with the mark IVP",
+        Refusal::UnknownVersion => "the file's version is not known",
+        Refusal::WrongKind => "the file's kind is not the one asked for",
+        Refusal::WrongLength => "the file's length is not what its rows and columns say",
+        Refusal::NoRoom => "the destination is shorter than the panel",
+        Refusal::OutsidePanel => "the place is outside the panel's shape or beyond its numbers",
     }
 }
 
 // A refusal by its number, and what it means.
-pub fn refusal(x: Refusal) {
-    text(b"refused with ");
-    whole(x.number());
-    text(b": ");
-    meaning(x);
+pub fn refusal(rt: &impl Print, x: Refusal) -> io::Result<()> {
+    print!(rt; "refused with {}: {}", x.number(), meaning(x))
 }

@@ -1,10 +1,8 @@
 -- Derived from crates/cgemm_kernel/proofs/Laws.antt by tools/derive: edit that.
 -- Reals and imaginaries that lie apart are those of the complex numbers. Assumes nothing.
-use Prim.Native.Nat.{ℕ, ◌<◌}
-use mathlib.Core.Path.{◌≡◌, ap, ◌∙◌}
-use mathlib.Core.List.{List}
-use lib.ListN.{get_or}
-use lib.Ieee.{Float, nan}
+use Rattle.std.specs.Prelude.{◌≡◌, ℕ, ◌<◌, List, get_or, Float}
+use Rattle.std.proofs.Common.{ap, ◌∙◌}
+use Rattle.std.specs.Float.{nan}
 use Rattle.rules.specs.Element.{Complex}
 use Rattle.rules.specs.Lists.{tab}
 use Rattle.rules.specs.ListLaws.{get_or-tab}

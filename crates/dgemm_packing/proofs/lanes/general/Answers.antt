@@ -4,7 +4,7 @@ use Rattle.std.proofs.Common.{◌+◌, arith, refl, ap, ◌∙◌}
 use lib.Ieee.{of_bits}
 use Rattle.rules.specs.ListLaws.{filled_none}
 use Rattle.element.specs.Real64.{arith as ar, view, tiling, held}
-use Rattle.layout.specs.BasedLaws.{index_lt, reached}
+use Rattle.layout.proofs.BasedLaws.{index_lt, reached}
 use Rattle.loops.specs.PanelLaws.{lane_more, lanes_all}
 use Rattle.dgemm_packing.proofs.lanes.general.Goals as goal
 

@@ -4,7 +4,7 @@ use Rattle.std.proofs.lemmas.Int.{to_z-of_z, to_z_pos}
 use Rattle.std.specs.Float.{nan}
 use Rattle.element.specs.Real32.{kind, arith as ar, tiling, held}
 use Rattle.layout.specs.Place.{index_of, element_at}
-use Rattle.layout.specs.BasedLaws.{reached}
+use Rattle.layout.proofs.BasedLaws.{reached}
 use Rattle.loops.specs.Panels.{padded}
 use Rattle.loops.specs.PanelLaws.{padded_in, lanes_ext}
 use Rattle.loops.specs.NeighbourLaws.{neighbour_index, neighbours_fit}
@@ -19,7 +19,7 @@ one c =
 -- the last neighbour is inside a
 fits : (c : Then-rs-eq1) → let a = c.args in index_of a.la a.first a.p + a.w ≤ length a.a.now
 fits c =
-    neighbours_fit c.requires.readable (one c) c.args.w c.args.first c.args.p c.if-first-w.true c.requires.w_le_mr.2
+    neighbours_fit c.requires.readable (one c) c.args.w c.args.first c.args.p (omega arith) c.requires.w_le_mr.2
     c.requires.w_le_mr.3
 
 pub place-from-requires : goal.place-from-requires
@@ -41,7 +41,7 @@ pub returns-then-rs-eq1 : goal.returns-then-rs-eq1
 returns-then-rs-eq1 c =
     let t = (goal.at.returns-then-rs-eq1 c).Then-rs-eq1 in
     let a = c.args in
-    let follows = neighbour_index c.requires.readable (one t) a.w a.first a.p c.if-first-w.true c.requires.w_le_mr.2 in
+    let follows = neighbour_index c.requires.readable (one t) a.w a.first a.p (omega arith) c.requires.w_le_mr.2 in
     c.contiguous.ensures
     ∙ lanes_ext ar held tiling.mr a.w _ _
     (λ i l.

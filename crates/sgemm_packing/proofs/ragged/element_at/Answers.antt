@@ -1,6 +1,6 @@
 -- `element_at` meets its contract: below row m it reads the element's place, which is inside a. Assumes nothing.
 use Rattle.std.proofs.Common.{arith}
-use Rattle.layout.specs.BasedLaws.{index_lt, reached}
+use Rattle.layout.proofs.BasedLaws.{index_lt, reached}
 use Rattle.sgemm_packing.proofs.ragged.element_at.Goals as goal
 
 pub place-at-requires : goal.place-at-requires

@@ -1,7 +1,7 @@
 -- Derived from crates/sgemm_packing/proofs/ragged/element_at/Answers.antt by tools/derive: edit that.
 -- `element_at` meets its contract: below row m it reads the element's place, which is inside a. Assumes nothing.
 use Rattle.std.proofs.Common.{arith}
-use Rattle.layout.specs.BasedLaws.{index_lt, reached}
+use Rattle.layout.proofs.BasedLaws.{index_lt, reached}
 use Rattle.zgemm_packing.proofs.ragged.element_at.Goals as goal
 
 pub place-at-requires : goal.place-at-requires

@@ -1,0 +1,5 @@
+pub mod PieceLaws
+pub mod OneOutcome
+pub mod Demand3
+pub mod Alone
+pub mod EndLaws

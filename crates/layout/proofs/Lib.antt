@@ -1,0 +1,2 @@
+-- The laws that other crates' proofs cite, of the definitions in specs/.
+pub mod BasedLaws
