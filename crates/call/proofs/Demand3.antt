@@ -3,7 +3,8 @@ use Rattle.std.specs.Prelude.{ℕ, zero, suc, ◌≤◌, ◌<◌}
 use mathlib.Core.{Path.◌≡◌, Path.refl, Path.sym, Path.◌∙◌, Path.subst, List.List}
 use Rattle.std.proofs.Common.{arith}
 use lib.{ListN.length, Ieee.Float}
-use Rattle.rules.specs.{Pieces.Piece, Pieces.Cuts, GridLaws.grid_cuts}
+use Rattle.rules.specs.Pieces.{Piece, Cuts}
+use Rattle.rules.proofs.GridLaws.{grid_cuts}
 use Rattle.element.specs.declared.kind.Kind.{Kind}
 use Rattle.call.specs.{declared.answer.Answer.Answer, declared.judge.Lengths.Lengths, Call.Call, Call.chunk, Call.Does}
 use Rattle.call.specs.{Verdict.lengths, Verdict.Verdict, Outcome.answer_number, Outcome.Leaves, Outcome.Outcome}

@@ -4,7 +4,8 @@ use mathlib.Core.{Path.◌≡◌, Logic.◌⊎◌, Logic.inl, Logic.inr}
 use native.Mathlib.{Nat.pos_of_ne-zero, Omega.arith}
 use Rattle.refusal.specs.{Order.done, OrderLaws.first_passed}
 use Rattle.element.specs.{declared.kind.Kind.Kind, Kinds.view_of, Kinds.tiling_of, Kinds.depth_chunk}
-use Rattle.layout.specs.{declared.operand.Operand.Operand, Need.need_of, BasedLaws.writable}
+use Rattle.layout.specs.{declared.operand.Operand.Operand, Need.need_of}
+use Rattle.layout.proofs.BasedLaws.{writable}
 use Rattle.layout.specs.Operands.{AllInside, NoneMeet, Modest, Readable, Writable}
 use Rattle.layout.specs.Tests.{all_inside, none_meet, not_large, modest, not_above}
 use Rattle.call.specs.declared.judge.{Matrices.Matrices, Lengths.Lengths}

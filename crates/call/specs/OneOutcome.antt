@@ -3,7 +3,8 @@ use Rattle.std.specs.Prelude.{ℕ, ◌<◌}
 use mathlib.Core.{Path.◌≡◌, Path.refl, Path.sym, Path.ap, Path.◌∙◌, Path.subst, List.List}
 use native.Mathlib.{Decide.dec_lt, Omega.arith}
 use lib.{Ieee.Float}
-use Rattle.refusal.specs.{Order.Says, OrderLaws.One, NumberLaws.same_refusal, NumberLaws.refusal_not_zero}
+use Rattle.refusal.specs.{Order.Says, OrderLaws.One}
+use Rattle.refusal.proofs.NumberLaws.{same_refusal, refusal_not_zero}
 use Rattle.element.specs.declared.kind.Kind.{Kind}
 use Rattle.call.specs.{declared.answer.Answer.Answer, declared.judge.Lengths.Lengths, Call.Call, Verdict.Verdict}
 use Rattle.call.specs.{Outcome.answer_number, Outcome.Leaves, StageLaws.judged_one}
