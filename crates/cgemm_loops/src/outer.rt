@@ -45,6 +45,7 @@ fn row_loop(
 }
 
 // What multiplies old C in depth chunk t.
+#[tactic(auto, unfolding(rules::specs::Element::multiplier))]
 fn multiplier(beta: Number, t: usize) -> Number
     ensures { number result ≡ multiplier arith (number beta) t }
 {
