@@ -1,6 +1,6 @@
 /* Hewnspandrel from C. From the repository's root:
 
-     (cd crates/hewnspandrel && rt lib)
+     (cd crates/hewnspandrel && rt lib --cpu x86-64)
      mkdir -p target
      cc -Iinclude c/example.c crates/hewnspandrel/out/libhewnspandrel.a -o target/example
      target/example */

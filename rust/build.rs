@@ -1,8 +1,9 @@
 //! Finds the static library of the proved crates, or makes it, and has it linked.
 //!
 //! HEWNSPANDREL_LIB names the folder of libhewnspandrel.a, by its whole path. Where it is not set, or empty, the folder is
-//! crates/hewnspandrel/out of this repository, and `rt lib` in crates/hewnspandrel makes the library where it is missing
-//! or older than what it is made of: crates.txt, and src, specs and proofs of each crate.
+//! crates/hewnspandrel/out of this repository, and `rt lib --cpu x86-64` in crates/hewnspandrel makes the library where it is
+//! missing or older than what it is made of: crates.txt, and src, specs and proofs of each crate. Without the flag it would be
+//! for some processors only, and would not test for one.
 
 use std::fs::{self, File, OpenOptions};
 use std::io::Write;
@@ -89,10 +90,10 @@ fn sources(repository: &Path) -> Vec<PathBuf> {
 }
 
 fn make(library_crate: &Path, cause: &str, lock: File) {
-    say(&format!("{cause}, so `rt lib` in {} makes it now: minutes where nothing is proved yet", library_crate.display()));
+    say(&format!("{cause}, so `rt lib` makes it now in {}: minutes where nothing is proved yet", library_crate.display()));
     let way_out = format!("or set HEWNSPANDREL_LIB to a folder that has {LIBRARY}, which is then taken as it is");
     let mut rt = Command::new("rt");
-    rt.arg("lib").current_dir(library_crate);
+    rt.args(["lib", "--cpu", "x86-64"]).current_dir(library_crate);
     // what rt says is for people; cargo reads this script's output
     rt.stdout(io::stderr());
     // rt holds the lock too, so that it stays taken where this script is killed and rt runs on
