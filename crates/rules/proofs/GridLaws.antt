@@ -1,5 +1,5 @@
 -- A grid is a cut: of C into cells with stretches of the depth. Assumes nothing.
-use Rattle.std.specs.Prelude.{ℕ, zero, suc, ◌+◌, ◌-◌, ◌*◌, ◌≤◌, ◌<◌, ◌≡◌}
+use Rattle.std.specs.Prelude.{ℕ, zero, suc, ◌+◌, ◌*◌, ◌≤◌, ◌<◌, ◌≡◌}
 use Rattle.std.proofs.Common.{sym, ◌∙◌, zero-mul, add-mul, arith}
 use Rattle.std.proofs.Math.Decide.{dec_lt}
 use Rattle.rules.specs.Slice.{Block}

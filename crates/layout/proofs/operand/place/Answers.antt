@@ -1,5 +1,5 @@
 -- `place` meets its contract: each step of the signed sum fits, and reads back as the number it is. Assumes nothing.
-use Rattle.std.proofs.Common.{rules, ap, nat_abs, FitsSigned, w64}
+use Rattle.std.proofs.Common.{rules, ap, nat_abs}
 use Rattle.layout.specs.Index.{r_need, cast_need, place_is}
 use Rattle.layout.proofs.operand.place.Goals as goal
 
