@@ -43,7 +43,8 @@ module _ {kind : Kind} (q : Call kind) (P : List Float) (r : ℕ) where
       → Kept kind (need_of (tiling_of kind) (chunk q) q.over.m q.over.k q.over.n) P Q → PackLeft q P Q r
   pack_used Q ok busy k = record { refused = λ h. absurd (let z : ⊥ = omega arith in z); idle = λ z. absurd (busy z); kept = k }
 
-module _ {kind : Kind} (q : Call kind) (A B C P : List Float) (r : Answer) (v : Verdict (length P) q (lengths A B C) (answer_number r)) where
+module _ {kind : Kind} (q : Call kind) (A B C P : List Float) (r : Answer)
+    (v : Verdict (length P) q (lengths A B C) (answer_number r)) where
   pub out_refused : 0 < answer_number r → Outcome q A B C C P P r
   out_refused h = record {
     c = left_refused (Verdict (length P) q (lengths A B C)) (Does q A B) C (answer_number r) v h;

@@ -26,7 +26,8 @@ fn pack_row(
     p: usize,
 )
     requires readable { Readable m kc la (view.count (length a.now)) }
-    requires w_in_bounds { (start + (packing_of kind).floats w ≤ length pack.old) × (w ≤ tiling.mr) × (first + w < 2 ^ 32) × (p < kc) × (0 < w) }
+    requires w_in_bounds { (start + (packing_of kind).floats w ≤ length pack.old) × (w ≤ tiling.mr)
+        × (first + w < 2 ^ 32) × (p < kc) × (0 < w) }
     ensures { pack.new ≡ splice pack.old start
         ((packing_of kind).row w (λ i. padded arith m (element_at kind a.now la) (first + i) p)) }
 {

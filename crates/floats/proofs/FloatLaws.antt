@@ -43,7 +43,8 @@ large_float f word h = ap (λ (b : Bool). cond b (of_bits f word) nan) (sym (le-
 
 pub nan_float : (f : Format) (word : ℕ) → word < 2 * top f → ones f * hid f < word % top f → nan ≡ float_of f word
 nan_float f word l h =
-    let above : is_nan (of_bits f word) ≡ true = sym (nan_bits_is f word) ∙ nan_bits_above f word ∙ lt-ltb (ones f * hid f) (word % top f) h in
+    let above : is_nan (of_bits f word) ≡ true = sym (nan_bits_is f word) ∙ nan_bits_above f word
+    ∙ lt-ltb (ones f * hid f) (word % top f) h in
     sym (nan_is (of_bits f word) above) ∙ pattern_float f word l
 
 -- ---- is a float the word's, y, which is w?
@@ -62,5 +63,6 @@ module _ {x y w : Float} (e : y ≡ w) where
   pub pattern_tells : (f : Format) → fits f x ≡ true → fits f y ≡ true → Tells (eqb (to_bits f x) (to_bits f y)) (x ≡ w)
   pattern_tells f p q =
       tells_by (eqb (to_bits f x) (to_bits f y))
-      (λ t. sym (of_bits-to_bits f x (holds p)) ∙ ap (of_bits f) (eqb-true (to_bits f x) (to_bits f y) t) ∙ of_bits-to_bits f y (holds q) ∙ e)
+      (λ t. sym (of_bits-to_bits f x (holds p)) ∙ ap (of_bits f) (eqb-true (to_bits f x) (to_bits f y) t)
+      ∙ of_bits-to_bits f y (holds q) ∙ e)
       (λ t s. eqb-false (to_bits f x) (to_bits f y) t (ap (to_bits f) (s ∙ sym e)))

@@ -153,7 +153,8 @@ module _ {E : Type 0} {v : View E} (ok : Lawful v) {m n : ℕ} {o : Operand} {le
   pub rows_more : Writable m n o len → (r h : ℕ) → r + h ≤ m → 0 < h → {o' : Operand} {f g : ℕ → ℕ → E → E} {C D B : List Float}
       → o' ≡ based_at o r 0
       → ((i j : ℕ) → i < h → j < n → (x : E) → g i j x ≡ f (r + i) j x)
-      → Updated v (index_of o) (Block r n) f C D → Updated v (index_of o') (Block h n) g D B → Updated v (index_of o) (Block (r + h) n) f C B
+      → Updated v (index_of o) (Block r n) f C D → Updated v (index_of o') (Block h n) g D B
+      → Updated v (index_of o) (Block (r + h) n) f C B
   rows_more t r h fits some {o'} {f} {g} {C} {D} {B} at same u w =
       rows ok (index_of o) r h n (λ i j k l p q e. t.apart i j k l (omega arith) (omega arith) e) u
       (based_updated v t.readable r 0 h n (omega arith) t.readable.n_some
@@ -164,7 +165,8 @@ module _ {E : Type 0} {v : View E} (ok : Lawful v) {m n : ℕ} {o : Operand} {le
   pub columns_more : Writable m n o len → (c w : ℕ) → c + w ≤ n → 0 < w → {o' : Operand} {f g : ℕ → ℕ → E → E} {C D B : List Float}
       → o' ≡ based_at o 0 c
       → ((i j : ℕ) → i < m → j < w → (x : E) → g i j x ≡ f i (c + j) x)
-      → Updated v (index_of o) (Block m c) f C D → Updated v (index_of o') (Block m w) g D B → Updated v (index_of o) (Block m (c + w)) f C B
+      → Updated v (index_of o) (Block m c) f C D → Updated v (index_of o') (Block m w) g D B
+      → Updated v (index_of o) (Block m (c + w)) f C B
   columns_more t c w fits some {o'} {f} {g} {C} {D} {B} at same u z =
       columns ok (index_of o) m c w (λ i j k l p q e. t.apart i j k l (omega arith) (omega arith) e) u
       (based_updated v t.readable 0 c m w t.readable.m_some (omega arith)

@@ -1,7 +1,8 @@
 -- Laws of the need: rounding up, a piece's need is at most the whole's, and the question has one answer. Assumes nothing.
 use Rattle.std.specs.Prelude.{◌≡◌, ℕ, zero, suc, ◌+◌, ◌-◌, ◌*◌, ◌/◌, ◌%◌, ◌<◌, ◌≤◌, min}
 use Rattle.std.specs.Prelude.{refl}
-use Rattle.std.proofs.Common.{sym, ap, ◌∙◌, inl, inr, zero-le, le_trans, mul-le-mul, mul-le-mul_right, add-le-add, div-mul-le_self, div-add-mod', mod-lt, add-mul, one-mul, le-div_iff_mul-le, arith}
+use Rattle.std.proofs.Common.{sym, ap, ◌∙◌, inl, inr, zero-le, le_trans, mul-le-mul, mul-le-mul_right, add-le-add, div-mul-le_self}
+use Rattle.std.proofs.Common.{div-add-mod', mod-lt, add-mul, one-mul, le-div_iff_mul-le, arith}
 use Rattle.std.proofs.Math.Nat.{min-le_left, min-le_right, le-min, div-eq_of_lt-le}
 use Rattle.refusal.specs.declared.Refusal.TheVariants.{TooLarge}
 use Rattle.refusal.specs.Numbers.{number_of}

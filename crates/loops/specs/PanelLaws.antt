@@ -1,7 +1,8 @@
 -- Laws of packed panels: stores one after the other, how many panels, and reading a row back from a panel. Assumes nothing.
 use Rattle.std.specs.Prelude.{◌≡◌, refl, List, [], ◌∷◌, ◌++◌, length, take, drop, set, Float}
 use Rattle.std.proofs.Math.Path.{sym, ap}
-use Rattle.std.proofs.Common.{◌∙◌, le-div_iff_mul-le, le_trans, div-mul-le_self, div-add-mod', div-lt_iff_lt-mul, mod-lt, suc-mul, mul-le-mul_right, mod-eq_of_lt, add-zero, arith, length-append, length-drop, get_or-append-add, take_all}
+use Rattle.std.proofs.Common.{◌∙◌, le-div_iff_mul-le, le_trans, div-mul-le_self, div-add-mod', div-lt_iff_lt-mul, mod-lt, suc-mul}
+use Rattle.std.proofs.Common.{mul-le-mul_right, mod-eq_of_lt, add-zero, arith, length-append, length-drop, get_or-append-add, take_all}
 use Prim.Native.Nat.{ℕ, ◌+◌, ◌-◌, ◌*◌, ◌/◌, ◌%◌, ◌<◌, ◌≤◌}
 use Rattle.std.proofs.Math.Nat.{mul-one, mul-add-div_right, mul-add-mod_self_right, div-eq_of_lt, zero-add}
 use Rattle.std.proofs.Math.Decide.{dec_lt}

@@ -99,7 +99,8 @@ module _ (kind : Kind) where
     pub room : need_of (tiling_of kind) ch m k n ≤ (view_of kind).count (length P)
 
   -- promised: the first rows and columns of C are f of what they were, and the buffer's floats from `from` on are as they were
-  pub record LoopLeaves (oc : Operand) (rows columns : ℕ) (f : ℕ → ℕ → (arith_of kind).E → (arith_of kind).E) (from : ℕ) (C D P Q : List Float)
+  pub record LoopLeaves (oc : Operand) (rows columns : ℕ) (f : ℕ → ℕ → (arith_of kind).E → (arith_of kind).E) (from : ℕ)
+      (C D P Q : List Float)
       : Type 0 where
     pub does : Updated (view_of kind) (index_of oc) (Block rows columns) f C D
     pub keeps : KeptFrom from P Q

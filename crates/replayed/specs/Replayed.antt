@@ -65,7 +65,8 @@ Ran kind w = Outcome (recorded_call kind w)
 
 -- Against the words that were recorded, the number and C's slice D agree, the numbers differ, or a place is the first whose float differs.
 abbrev pub Compared : Format → List ℕ → ℕ → List Float → Comparison → Type 0
-Compared f w number D Comparison.Agrees = (number ≡ get_or w 0 0) × ((i : ℕ) → i < length D → get_or D i nan ≡ float_of f (get_or (drop 1 w) i 0))
+Compared f w number D Comparison.Agrees =
+    (number ≡ get_or w 0 0) × ((i : ℕ) → i < length D → get_or D i nan ≡ float_of f (get_or (drop 1 w) i 0))
 Compared f w number D Comparison.Answer = number ≡ get_or w 0 0 → ⊥
 Compared f w number D (Comparison.Place i) = (number ≡ get_or w 0 0) × (i < length D) × FirstDifference f D (drop 1 w) i
 

@@ -2,7 +2,8 @@
 -- arrays that a loop fills. Assumes nothing.
 use Rattle.std.specs.Prelude.{◌≡◌, set}
 use Rattle.std.proofs.Math.Path.{refl, sym, ap}
-use Rattle.std.proofs.Common.{◌∙◌, zero-mul, eq-or-lt_of_le, le_of_suc-le-suc, not-suc-le-zero, below_more, take-append-drop, length-set, ext_get_or, get_or-set_same, get_or-set_other}
+use Rattle.std.proofs.Common.{◌∙◌, zero-mul, eq-or-lt_of_le, le_of_suc-le-suc, not-suc-le-zero, below_more, take-append-drop, length-set}
+use Rattle.std.proofs.Common.{ext_get_or, get_or-set_same, get_or-set_other}
 use Rattle.std.proofs.Math.Logic.{⊎_elim}
 use mathlib.Core.List.{List, [], ◌∷◌, ◌++◌, append_assoc, append-nil}
 use Prim.Native.Nat.{ℕ, zero, suc, ◌+◌, ◌-◌, ◌*◌, ◌<◌, ◌≤◌}

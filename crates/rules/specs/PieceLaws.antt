@@ -6,7 +6,8 @@ use Rattle.rules.specs.Portions.{Proper, Divides}
 use Rattle.rules.specs.Pieces.{Piece, HasPlace, Fits, Cuts}
 
 module _ {kc m k n N : ℕ} {piece : ℕ → Piece} where
-  pub cuts_proper : Cuts kc m k n N piece → Proper kc k N (Block m n) (λ t. HasPlace (piece t)) (λ t. (piece t).depth) (λ t. (piece t).depths)
+  pub cuts_proper : Cuts kc m k n N piece
+      → Proper kc k N (Block m n) (λ t. HasPlace (piece t)) (λ t. (piece t).depth) (λ t. (piece t).depths)
   cuts_proper c = record {
     within = λ t i j h o. omega (arith, c.fits t h);
     ends = λ t h. (c.fits t h).2;
@@ -14,7 +15,8 @@ module _ {kc m k n N : ℕ} {piece : ℕ → Piece} where
     starts = c.starts;
   }
 
-  pub cuts_divides : Cuts kc m k n N piece → Divides k N (Block m n) (λ t. HasPlace (piece t)) (λ t. (piece t).depth) (λ t. (piece t).depths)
+  pub cuts_divides : Cuts kc m k n N piece
+      → Divides k N (Block m n) (λ t. HasPlace (piece t)) (λ t. (piece t).depth) (λ t. (piece t).depths)
   cuts_divides c = record {
     covered = λ i j q w l. c.covered i j q w.0 w.1 l;
     once = λ t u i j q ht hu ot rt ou ru. c.once t u i j q ht hu (omega arith) rt (omega arith) ru;

@@ -22,6 +22,7 @@ complex_lawful = record {
   whole = λ floats t h. omega arith;
 }
   where
-    half : (C D : List Float) (t r : ℕ) → t % 2 ≡ r → complex_view.get C (t / 2) ≡ complex_view.get D (t / 2) → get_or C t nan ≡ get_or D t nan
+    half : (C D : List Float) (t r : ℕ) → t % 2 ≡ r → complex_view.get C (t / 2) ≡ complex_view.get D (t / 2)
+        → get_or C t nan ≡ get_or D t nan
     half C D t zero e h = let s : t / 2 * 2 ≡ t = omega arith in rw s at (ap (λ (x : Complex). x.re) h)
     half C D t (suc r) e h = let s : t / 2 * 2 + 1 ≡ t = omega arith in rw s at (ap (λ (x : Complex). x.im) h)

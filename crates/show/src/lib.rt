@@ -2,15 +2,21 @@
 // means.
 #![tactic(auto)]
 
-ghost use Rattle.std.specs.Prelude.{◌≤◌, IfOk, length};
+ghost use Rattle.std.specs.Prelude.{ℕ, ◌<◌, ◌≤◌, IfOk, OnErr, length, take};
+ghost use Rattle.std.specs.Io.KnownBytes.{Consumes, IsAtEnd};
 
 use refusal::Refusal;
 use std::io;
 use std::io::Read;
 
-// Reads until the buffer is full or the file ends, and answers how many bytes it has put at the buffer's start.
-pub fn read_full(file: &mut impl Read, buffer: &mut [u8]) -> io::Result<usize>
-    ensures { IfOk result (λ n. n ≤ length buffer.new) }
+// Reads until the buffer is full or the file ends, and answers how many bytes it has put at the buffer's start. Where a read fails, what
+// the file gave before stands there too.
+pub fn read_full<R: Read>(file: &mut R, buffer: &mut [u8]) -> io::Result<usize>
+    ensures within { IfOk result (λ n. n ≤ length buffer.new) }
+    ensures bytes { IfOk result (λ n. Consumes (R.remaining file.old) (R.remaining file.new) (take n buffer.new)) }
+    ensures end { IfOk result (λ n. n < length buffer.new → IsAtEnd (R.remaining file.new)) }
+    ensures failed { OnErr result ((n : ℕ) × (n ≤ length buffer.new)
+        × Consumes (R.remaining file.old) (R.remaining file.new) (take n buffer.new)) }
 {
     let mut done = 0;
     while done < buffer.len() {

@@ -11,7 +11,8 @@ use Rattle.dgemm_kernel.proofs.masked.put_row.Given as goal
 abbrev pub invariant-loop-j : goal.invariant-loop-j
 invariant-loop-j l =
     (length l.c ≡ length l.initial.c)
-    × Updated view (index_of l.lc) (Region l.i 1 0 (min l.j l.cols)) (λ i j. put arith (fate_of l.fn.fate) (at held l.fn.ab j)) l.initial.c l.c
+    × Updated view (index_of l.lc) (Region l.i 1 0 (min l.j l.cols))
+    (λ i j. put arith (fate_of l.fn.fate) (at held l.fn.ab j)) l.initial.c l.c
 
 abbrev pub decreases-loop-j : goal.decreases-loop-j
 decreases-loop-j l = tiling.nr - l.j
