@@ -1,5 +1,5 @@
 -- The four kinds: arithmetic, how elements lie in a slice, chunks and tiles; and the depth chunk. Definitions only.
-use Rattle.std.specs.Prelude.{ℕ}
+use Rattle.std.specs.Prelude.{◌≡◌, ℕ}
 use Rattle.std.specs.Float.{binary32, binary64}
 use Rattle.rules.specs.{Element.Arith, Element.real, Element.complex, Slice.View, Slice.real_view, Slice.complex_view}
 use Rattle.element.specs.declared.kind.{Kind.Kind, Tiling.Tiling}
@@ -27,3 +27,18 @@ tiling_of C64 = record { mc = 32; nc = 512; mr = 4; nr = 2 }
 -- the depth chunk, the same of every kind
 abbrev pub depth_chunk : ℕ
 depth_chunk = 256
+
+-- how many floats an element is
+abbrev pub per_element : Kind → ℕ
+per_element F32 = 1
+per_element F64 = 1
+per_element C32 = 2
+per_element C64 = 2
+
+-- the constants by which the code of a kind goes are the kind's
+pub record Constants (kind : Kind) (row_chunk chunk column_chunk tile_rows tile_columns per : ℕ) : Type 0 where
+  pub rows : (tiling_of kind).mc ≡ row_chunk
+  pub depth : depth_chunk ≡ chunk
+  pub columns : (tiling_of kind).nc ≡ column_chunk
+  pub sides : ((tiling_of kind).mr ≡ tile_rows) × ((tiling_of kind).nr ≡ tile_columns)
+  pub reals : per_element kind ≡ per

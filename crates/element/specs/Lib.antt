@@ -1,11 +1,6 @@
 pub mod Kinds
 pub mod Examples
-pub mod Real32
-pub mod Real64
-pub mod Complex32
-pub mod Complex64
 pub mod KindLaws
-pub mod Real32Laws
-pub mod Real64Laws
-pub mod Complex32Laws
-pub mod Complex64Laws
+pub mod Numbers
+pub mod Fates
+pub mod FloatLaws

@@ -7,7 +7,7 @@ use Rattle.std.specs.Float.{nan}
 use Rattle.rules.specs.Element.{chunks, chunk_length, after}
 use Rattle.rules.specs.Slice.{View, real_view, complex_view}
 use Rattle.element.specs.KindLaws.{lawful}
-use Rattle.element.specs.Kinds.{arith_of, view_of, tiling_of}
+use Rattle.element.specs.Kinds.{arith_of, view_of, tiling_of, per_element}
 use Rattle.element.specs.declared.kind.Kind.{Kind}
 use Rattle.element.specs.declared.kind.Kind.TheVariants.{F32, F64, C32, C64}
 use Rattle.layout.specs.declared.operand.Operand.{Operand}
@@ -16,7 +16,7 @@ use Rattle.layout.proofs.BasedLaws.{index_based}
 use Rattle.layout.specs.ChunkLaws.{chunk_start}
 use Rattle.layout.specs.Need.{round_up, need_of}
 use Rattle.layout.specs.NeedLaws.{need_some_lem, kind_sides}
-use Rattle.loops.specs.Panels.{Packing, real_packing, complex_packing, packing_of, per_element}
+use Rattle.loops.specs.Panels.{Packing, real_packing, complex_packing, packing_of}
 use Rattle.loops.specs.Work.{front_room, deep, panels, KeptFrom, Shares, MatricesFit, DepthAsks, ColumnsAsk, LoopLeaves, Turns}
 use Rattle.loops.specs.LoopLaws.{columns_start, columns_turn, columns_end}
 use Rattle.loops.specs.BufferLaws.{kept_none, kept_then, kept_more, panels_fewer}

@@ -42,13 +42,6 @@ packing_of F64 = real_packing
 packing_of C32 = complex_packing
 packing_of C64 = complex_packing
 
--- how many floats an element is
-abbrev pub per_element : Kind → ℕ
-per_element F32 = 1
-per_element F64 = 1
-per_element C32 = 2
-per_element C64 = 2
-
 -- x at (i, p), with +0 from row m on
 abbrev pub padded : (ar : Arith) → ℕ → (ℕ → ℕ → ar.E) → ℕ → ℕ → ar.E
 padded ar m x i p = up_to ar m (λ i. x i p) i

@@ -5,13 +5,13 @@ use Rattle.std.specs.Float.{nan}
 use Rattle.rules.specs.Element.{Arith, Fate, put, chunk_sum, chunks, after}
 use Rattle.rules.specs.Slice.{Updated, Block}
 use Rattle.rules.specs.Lists.{splice}
-use Rattle.element.specs.Kinds.{arith_of, view_of, tiling_of}
+use Rattle.element.specs.Kinds.{arith_of, view_of, tiling_of, per_element}
 use Rattle.element.specs.declared.kind.Kind.{Kind}
 use Rattle.layout.specs.declared.operand.Operand.{Operand}
 use Rattle.layout.specs.Place.{index_of, element_at}
 use Rattle.layout.specs.Operands.{Readable, Writable}
 use Rattle.layout.specs.Need.{round_up, need_of}
-use Rattle.loops.specs.Panels.{packing_of, per_element, padded, packed, unpacked}
+use Rattle.loops.specs.Panels.{packing_of, padded, packed, unpacked}
 
 -- ---- one element of C
 

@@ -1,0 +1,26 @@
+-- A slice's floats, one for each of its numbers: as many, and what is done to the numbers is done to the floats. Assumes nothing.
+use Rattle.std.specs.Prelude.{◌≡◌, ℕ, List, ◌++◌, length, get_or, take, drop, Float, map}
+use Rattle.std.proofs.Common.{sym, ap, ◌∙◌}
+use Rattle.std.proofs.Math.ListN.{set, get_or-map}
+use Rattle.std.proofs.lemmas.List.{length-map, take-map, drop-map, map-append, map-set}
+
+module _ {N : Type 0} {is : N → Float} {floats : List N → List Float} (each : (s : List N) → floats s ≡ map is s) where
+  pub length_floats : (s : List N) → length (floats s) ≡ length s
+  length_floats s = ap length (each s) ∙ length-map s is
+
+  pub get_floats : (s : List N) (i : ℕ) (d : N) → get_or (floats s) i (is d) ≡ is (get_or s i d)
+  get_floats s i d = ap (λ (t : List Float). get_or t i (is d)) (each s) ∙ get_or-map is s i d
+
+  pub take_floats : (n : ℕ) (s : List N) → floats (take n s) ≡ take n (floats s)
+  take_floats n s = each (take n s) ∙ sym (take-map is n s) ∙ ap (λ (t : List Float). take n t) (sym (each s))
+
+  pub drop_floats : (n : ℕ) (s : List N) → floats (drop n s) ≡ drop n (floats s)
+  drop_floats n s = each (drop n s) ∙ sym (drop-map is n s) ∙ ap (λ (t : List Float). drop n t) (sym (each s))
+
+  pub append_floats : (s t : List N) → floats (s ++ t) ≡ floats s ++ floats t
+  append_floats s t =
+      each (s ++ t) ∙ map-append is s t ∙ ap (λ (u : List Float). u ++ map is t) (sym (each s))
+      ∙ ap (λ (u : List Float). floats s ++ u) (sym (each t))
+
+  pub set_floats : (s : List N) (i : ℕ) (x : N) → floats (set s i x) ≡ set (floats s) i (is x)
+  set_floats s i x = each (set s i x) ∙ map-set is s i x ∙ ap (λ (t : List Float). set t i (is x)) (sym (each s))

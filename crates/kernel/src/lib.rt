@@ -1,0 +1,4 @@
+// The tile: the kernel that sums it, and its masked copy into C.
+#![tactic(auto)]
+
+pub mod kernels;

@@ -1,0 +1,4 @@
+// Packing: panels of tile width into the pack buffer.
+#![tactic(auto)]
+
+pub mod packs;
