@@ -1,5 +1,5 @@
 -- A slice's floats, one for each of its numbers: as many, and what is done to the numbers is done to the floats. Assumes nothing.
-use Rattle.std.specs.Prelude.{◌≡◌, ℕ, List, ◌++◌, length, get_or, take, drop, Float, map}
+use Rattle.std.specs.Prelude.{◌≡◌, ℕ, ◌-◌, List, ◌++◌, length, get_or, take, drop, Float, map}
 use Rattle.std.proofs.Common.{sym, ap, ◌∙◌}
 use Rattle.std.proofs.Math.ListN.{set, get_or-map}
 use Rattle.std.proofs.lemmas.List.{length-map, take-map, drop-map, map-append, map-set}
@@ -24,3 +24,7 @@ module _ {N : Type 0} {is : N → Float} {floats : List N → List Float} (each 
 
   pub set_floats : (s : List N) (i : ℕ) (x : N) → floats (set s i x) ≡ set (floats s) i (is x)
   set_floats s i x = each (set s i x) ∙ map-set is s i x ∙ ap (λ (t : List Float). set t i (is x)) (sym (each s))
+
+  -- what is left of a slice from n on
+  pub rest_floats : (n : ℕ) (s : List N) → floats (take (length s - n) (drop n s)) ≡ take (length (floats s) - n) (drop n (floats s))
+  rest_floats n s = take_floats (length s - n) (drop n s) ∙ rw (sym (length_floats s), drop_floats n s)

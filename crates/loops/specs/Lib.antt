@@ -11,3 +11,4 @@ pub mod BufferLaws
 pub mod RowLoop
 pub mod DepthLoop
 pub mod ColumnLoop
+pub mod ConstantLaws

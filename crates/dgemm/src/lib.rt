@@ -1,6 +1,0 @@
-// Derived from crates/sgemm/src/lib.rt by tools/derive: edit that.
-// dgemm: C becomes alpha A B + beta C, in the kind Real64: the entry point, and C where the depth is zero.
-#![tactic(auto)]
-
-pub mod gemm;
-mod scale;

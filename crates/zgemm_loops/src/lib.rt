@@ -1,6 +1,0 @@
-// Derived from crates/sgemm_loops/src/lib.rt by tools/derive: edit that.
-// The five loops around the tile kernel, in the kind Complex64.
-#![tactic(auto)]
-
-pub mod outer;
-mod packed;
