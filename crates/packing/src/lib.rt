@@ -2,3 +2,4 @@
 #![tactic(auto)]
 
 pub mod packs;
+pub mod panels;
