@@ -2,6 +2,7 @@
 use Rattle.std.specs.Prelude.{◌≡◌, ℕ, ◌-◌, List, ◌++◌, length, get_or, take, drop, Float, map}
 use Rattle.std.proofs.Common.{sym, ap, ◌∙◌}
 use Rattle.std.proofs.Math.ListN.{set, get_or-map}
+use borrow.Rule.Slice.PartMut.{mid_of, put_mid, post_of}
 use Rattle.std.proofs.lemmas.List.{length-map, take-map, drop-map, map-append, map-set}
 
 module _ {N : Type 0} {is : N → Float} {floats : List N → List Float} (each : (s : List N) → floats s ≡ map is s) where
@@ -28,3 +29,12 @@ module _ {N : Type 0} {is : N → Float} {floats : List N → List Float} (each 
   -- what is left of a slice from n on
   pub rest_floats : (n : ℕ) (s : List N) → floats (take (length s - n) (drop n s)) ≡ take (length (floats s) - n) (drop n (floats s))
   rest_floats n s = take_floats (length s - n) (drop n s) ∙ rw (sym (length_floats s), drop_floats n s)
+
+  -- a part lent from n on, and r back in its place
+  pub lent_floats : (n : ℕ) (s : List N) → floats (mid_of n (length s - n) s) ≡ mid_of n (length (floats s) - n) (floats s)
+  lent_floats n s = rest_floats n s
+
+  pub back_floats : (n : ℕ) (s r : List N) → floats (put_mid n (length s - n) s r) ≡ put_mid n (length (floats s) - n) (floats s) (floats r)
+  back_floats n s r =
+      append_floats (take n s) (r ++ post_of n (length s - n) s)
+      ∙ rw (take_floats n s, append_floats r (post_of n (length s - n) s), drop_floats (length s - n) (drop n s), drop_floats n s, sym (length_floats s))

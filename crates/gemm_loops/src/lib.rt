@@ -1,4 +1,5 @@
-// The five loops around the tile kernel, in any kind.
+// The five loops around the tile kernel, over any kind.
 #![tactic(auto)]
 
+pub mod outer;
 mod packed;

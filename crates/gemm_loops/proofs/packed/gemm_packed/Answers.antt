@@ -74,7 +74,7 @@ pub slice_bounds-tile_column-start : goal.slice_bounds-tile_column-start
 slice_bounds-tile_column-start g c =
     let t = goal.at.slice_bounds-tile_column-start g c in
     let h : c.loop-j.j * (c.args.kc * (c.TILE_COLUMNS-side.result * c.REALS.result)) ≤ length c.args.b.now =
-        rw (panel g t.After-REALS) (omega (arith, room g t.In-loop-j)) in
+    rw (panel g t.After-REALS) (omega (arith, room g t.In-loop-j)) in
     search rules
 
 pub tile_column-requires-clause-writable : goal.tile_column-requires-clause-writable
@@ -90,8 +90,8 @@ tile_column-requires-clause-cols_le_nr g c =
       omega (arith, side g t.After-REALS, turn_most c.TILE_COLUMNS-side.result c.args.n c.loop-j.j c.chunk_len-cols.ensures),
       c.requires.kc_in_bounds.0,
       rw (panel g t.After-REALS, rest_floats g.met.T.Real.Real.each (c.loop-j.j * p) c.args.b.now)
-      (rest_long (g.T.Real.Real.floats c.args.b.now) (c.loop-j.j * p) p
-      (rw (length_floats g.met.T.Real.Real.each c.args.b.now) (room g t.In-loop-j))),
+          (rest_long (g.T.Real.Real.floats c.args.b.now) (c.loop-j.j * p) p
+          (rw (length_floats g.met.T.Real.Real.each c.args.b.now) (room g t.In-loop-j))),
     )
 
 pub loop-j-preserved : goal.loop-j-preserved

@@ -88,8 +88,8 @@ masked_kernel-requires-clause-mr_in_bounds g c =
     let t = goal.at.masked_kernel-requires-clause-mr_in_bounds g c in
     let p = c.args.kc * (packing_of g.T.Element.kind).floats (tiling_of g.T.Element.kind).mr in (
       rw (panel g t.After-REALS, rest_floats g.met.T.Real.Real.each (c.loop-i.i * p) c.args.a.now)
-      (rest_long (g.T.Real.Real.floats c.args.a.now) (c.loop-i.i * p) p
-      (rw (length_floats g.met.T.Real.Real.each c.args.a.now) (room g t.In-loop-i))),
+          (rest_long (g.T.Real.Real.floats c.args.a.now) (c.loop-i.i * p) p
+          (rw (length_floats g.met.T.Real.Real.each c.args.a.now) (room g t.In-loop-i))),
       c.requires.cols_le_nr.2,
     )
 
@@ -97,7 +97,7 @@ pub slice_bounds-masked_kernel-start : goal.slice_bounds-masked_kernel-start
 slice_bounds-masked_kernel-start g c =
     let t = goal.at.slice_bounds-masked_kernel-start g c in
     let h : c.loop-i.i * (c.args.kc * (c.TILE_ROWS-side.result * c.REALS.result)) ≤ length c.args.a.now =
-        rw (panel g t.After-REALS) (omega (arith, room g t.In-loop-i)) in
+    rw (panel g t.After-REALS) (omega (arith, room g t.In-loop-i)) in
     search rules
 
 pub loop-i-preserved : goal.loop-i-preserved

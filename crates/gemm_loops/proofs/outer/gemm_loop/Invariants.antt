@@ -1,0 +1,19 @@
+-- `gemm_loop` meets its contract (LOOP 5): the columns of the first j chunks are done. Assumes nothing.
+use Rattle.std.proofs.Common.{min, ◌*◌}
+use Rattle.rules.specs.Element.{chunks}
+use Rattle.element.specs.Kinds.{tiling_of, per_element}
+use Rattle.layout.specs.Need.{need_of}
+use Rattle.loops.specs.Work.{deep, LoopLeaves, Turns}
+use Rattle.gemm_loops.proofs.outer.gemm_loop.Given as goal
+
+abbrev pub invariant-loop-j : goal.invariant-loop-j
+invariant-loop-j g l =
+    let kind = g.T.Element.kind in
+    let is = g.T.Element.held.is in
+    let floats = g.T.Real.Real.floats in
+    let w = (tiling_of kind).nc in
+    Turns w l.n l.j-end l.j (floats l.initial.c) (floats l.c)
+    (LoopLeaves kind l.lc l.m (min (l.j * w) l.n)
+    (deep kind l.chunk (is l.alpha) (is l.beta) (floats l.a) l.la (floats l.b) l.lb l.k (chunks l.chunk l.k))
+    (need_of (tiling_of kind) l.chunk l.m l.k l.n * per_element kind)
+    (floats l.initial.c) (floats l.c) (floats l.initial.pack) (floats l.pack))
