@@ -4,3 +4,4 @@ pub mod KindLaws
 pub mod Numbers
 pub mod Fates
 pub mod FloatLaws
+pub mod NumberLaws
