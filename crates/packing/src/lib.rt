@@ -1,5 +1,6 @@
 // Packing: panels of tile width into the pack buffer.
 #![tactic(auto)]
 
+mod lanes;
 pub mod packs;
 pub mod panels;
