@@ -1,6 +1,6 @@
 -- Numbers stored one after the other, as floats. Assumes nothing.
 use Rattle.std.specs.Prelude.{◌≡◌, ℕ, zero, suc, ◌+◌, ◌≤◌, List, [], ◌∷◌, ◌++◌, length, get_or, take, drop, Float, map}
-use Rattle.std.proofs.Common.{sym, ap, ◌∙◌, arith}
+use Rattle.std.proofs.Common.{ap, ◌∙◌, arith}
 use Rattle.std.proofs.Math.Seq.{take-suc, drop-drop}
 use borrow.Rule.Slice.PartMut.{put_mid}
 use Rattle.rules.specs.Lists.{cat, splice}

@@ -2,7 +2,11 @@
 #![tactic(auto)]
 
 mod complex;
+mod complex32;
+mod complex64;
 mod lanes;
 pub mod packs;
 pub mod panels;
 mod real;
+mod real32;
+mod real64;

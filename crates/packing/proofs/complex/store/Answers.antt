@@ -1,6 +1,5 @@
 -- `store` meets its contract: the two halves stand one after the other. Assumes nothing.
 use Rattle.std.proofs.Common.{rules, arith}
-use Rattle.rules.specs.Element.{Complex}
 use Rattle.element.specs.Numbers.{complex_held}
 use Rattle.loops.specs.PanelLaws.{pairs_stored}
 use Rattle.loops.specs.Tiles.{at}

@@ -1,7 +1,7 @@
 -- A lane more in each turn. Assumes nothing.
-use Rattle.std.proofs.Common.{◌≡◌, ◌+◌, ◌<◌, length, get_or, arith, sym, ap, ◌∙◌}
+use Rattle.std.proofs.Common.{◌≡◌, ◌+◌, arith, ap, ◌∙◌}
 use Rattle.std.proofs.lemmas.List.{get_or_default}
-use Rattle.element.specs.FloatLaws.{length_floats, set_floats}
+use Rattle.element.specs.FloatLaws.{set_floats}
 use Rattle.element.specs.Numbers.{complex_held}
 use Rattle.loops.specs.PanelLaws.{singles_none, singles_more}
 use Rattle.loops.specs.Tiles.{at}

@@ -1,5 +1,5 @@
 -- `contiguous` meets its contract: each neighbour is inside a. Assumes nothing.
-use Rattle.std.proofs.Common.{arith, length}
+use Rattle.std.proofs.Common.{length}
 use Rattle.std.proofs.iter.Serving.{serving}
 use Rattle.element.specs.FloatLaws.{length_floats}
 use Rattle.packing.proofs.RowFloats.{elements_few}

@@ -1,5 +1,4 @@
 -- `general` meets its contract: each place is inside a. Assumes nothing.
-use Rattle.std.proofs.Common.{arith}
 use Rattle.std.proofs.iter.Serving.{serving}
 use Rattle.layout.proofs.BasedLaws.{index_lt, reached}
 use Rattle.packing.proofs.lanes.general.Goals as goal

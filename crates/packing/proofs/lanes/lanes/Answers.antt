@@ -1,10 +1,9 @@
 -- `lanes` meets its contract: where no row is missing none is +0, and rows that are neighbours are read as such. Assumes nothing.
-use Rattle.std.proofs.Common.{rules, ◌≡◌, ℕ, ◌+◌, ◌<◌, ◌≤◌, arith, sym, ap, ◌∙◌, ℤ, List, Float, pos, w64, FitsSigned, to_z, of_z}
+use Rattle.std.proofs.Common.{rules, ◌≡◌, ℕ, ◌+◌, arith, sym, ap, ◌∙◌, ℤ, List, Float, pos, w64, FitsSigned, to_z, of_z}
 use Rattle.std.proofs.lemmas.Int.{to_z-of_z, to_z_pos}
 use Rattle.element.specs.Kinds.{arith_of, view_of}
 use Rattle.layout.specs.Place.{index_of, element_at}
 use Rattle.layout.proofs.BasedLaws.{reached}
-use Rattle.loops.specs.Panels.{padded}
 use Rattle.loops.specs.PanelLaws.{padded_in, lanes_ext}
 use Rattle.loops.specs.NeighbourLaws.{neighbour_index, neighbours_fit}
 use Rattle.packing.proofs.lanes.lanes.Goals as goal

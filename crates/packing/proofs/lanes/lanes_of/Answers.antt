@@ -1,8 +1,7 @@
 -- A lane more in each turn. Assumes nothing.
-use Rattle.std.proofs.Common.{◌≡◌, ℕ, zero, suc, List, ◌∷◌, replicate, arith, refl, sym, ap, ◌∙◌}
+use Rattle.std.proofs.Common.{◌≡◌, ℕ, zero, suc, List, ◌∷◌, replicate, refl, sym, ap, ◌∙◌}
 use Rattle.rules.specs.Lists.{tab}
 use Rattle.element.specs.Kinds.{arith_of}
-use Rattle.loops.specs.Tiles.{line}
 use Rattle.loops.specs.PanelLaws.{lane_more, lanes_all}
 use Rattle.packing.proofs.lanes.lanes_of.Given.{Over}
 use Rattle.packing.proofs.lanes.lanes_of.Goals as goal

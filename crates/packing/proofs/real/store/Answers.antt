@@ -1,5 +1,5 @@
 -- `store` meets its contract: a row of lanes is copied. Assumes nothing.
-use Rattle.std.proofs.Common.{◌≡◌, ◌+◌, ◌-◌, List, Float, take, length, length-take-le, arith, ap, ◌∙◌}
+use Rattle.std.proofs.Common.{◌+◌, ◌-◌, List, Float, length, length-take-le, arith, ap, ◌∙◌}
 use Rattle.rules.specs.Lists.{splice}
 use Rattle.packing.proofs.StoreLaws.{first_floats, put_floats}
 use Rattle.packing.proofs.real.store.Goals as goal

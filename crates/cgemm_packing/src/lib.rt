@@ -1,6 +1,0 @@
-// Packing of complex f32: panels of tile width into the pack buffer.
-#![tactic(auto)]
-
-mod lanes;
-pub mod panels;
-mod ragged;
