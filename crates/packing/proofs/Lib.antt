@@ -1,1 +1,2 @@
 mod RowFloats
+mod StoreLaws

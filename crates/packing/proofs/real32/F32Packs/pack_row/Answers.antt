@@ -1,0 +1,14 @@
+-- `pack_row` meets its contract: the lanes that are stored are the panel's. Assumes nothing.
+use Rattle.std.proofs.Common.{ap, ◌∙◌}
+use Rattle.std.specs.Float.{binary32}
+use Rattle.rules.specs.Element.{real}
+use Rattle.rules.specs.Held.{float}
+use Rattle.rules.specs.Lists.{splice}
+use Rattle.loops.specs.PanelLaws.{real_packing_lem, lanes_row}
+use Rattle.packing.proofs.real32.F32Packs.pack_row.Goals as goal
+
+pub returns : goal.returns
+returns c =
+    c.store.ensures
+    ∙ ap (splice c.args.pack.now c.args.start)
+    (lanes_row (real binary32) float _ c.args.w real_packing_lem _ c.requires.w_in_bounds.1 c.lanes-x.ensures)

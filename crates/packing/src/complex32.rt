@@ -1,0 +1,29 @@
+// How complex f32 is packed. Rust: `pack_complex`, cgemm_common.rs.
+use crate::complex::store;
+use crate::lanes::ragged;
+use crate::packs::Packs;
+use element::complex::Complex32;
+use element::elements::Element;
+use layout::operand::Operand;
+
+// A panel is at most as wide as the tile has rows.
+const LANES: usize = <Complex32 as Element>::TILE_ROWS;
+
+// Written for each kind: the merge gate refuses an impl that a macro of the repository writes.
+impl Packs for Complex32 {
+    // It is read whole before it is stored, so that a row of lanes is stored at once.
+    fn pack_row(
+        pack: &mut [f32],
+        start: usize,
+        w: usize,
+        a: &[f32],
+        la: Operand,
+        m: usize,
+        kc: usize,
+        first: usize,
+        p: usize,
+    ) {
+        let x: [Complex32; LANES] = ragged(w, a, la, m, kc, first, p);
+        store(pack, start, w, x);
+    }
+}
