@@ -5,6 +5,7 @@ ghost use Rattle.rules.specs.Stores.{Stored};
 ghost use Rattle.element.specs.Kinds.{arith_of, view_of, Constants};
 ghost use Rattle.element.specs.declared.kind.Kind.{Kind};
 
+use crate::kind::Kind;
 use crate::real::Real;
 
 pub trait Element: Copy {
@@ -40,6 +41,9 @@ pub trait Element: Copy {
     ghost TILE_COLUMNS: { ℕ };
 
     ghost REALS: { ℕ };
+
+    fn kind() -> Kind
+        ensures { result ≡ kind };
 
     fn zero() -> Self
         ensures { held.is result ≡ (arith_of kind).nought };
