@@ -6,6 +6,7 @@ ghost use Rattle.sample.specs.Calls.{word_of, operand_at, matrices_of, length_at
 use call::judge::Matrices;
 use element::kind::Kind;
 use layout::operand::Operand;
+use std::fmt;
 use words::{after, signed, word_at};
 
 // Where each number stands.
@@ -35,6 +36,15 @@ const LARGEST: u64 = 0xffff_ffff;
 pub enum Difference {
     Answer,
     Place(usize),
+}
+
+impl fmt::Display for Difference {
+    fn fmt<W: fmt::Write>(&self, f: &mut fmt::Formatter<W>) -> fmt::Result {
+        match self {
+            Difference::Answer => f.write_str("answer"),
+            Difference::Place(place) => write!(f, "place {place}"),
+        }
+    }
 }
 
 // The word of a kind: 0 to 3 for sgemm, dgemm, cgemm and zgemm.
