@@ -2,3 +2,4 @@
 #![tactic(auto)]
 
 pub mod kernels;
+pub mod masked;
