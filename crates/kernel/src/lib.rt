@@ -3,3 +3,5 @@
 
 pub mod kernels;
 pub mod masked;
+mod reads;
+pub mod real;
