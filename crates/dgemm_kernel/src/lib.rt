@@ -1,7 +1,0 @@
-// Derived from crates/sgemm_kernel/src/lib.rt by tools/derive: edit that.
-// The tile of f64: the kernel that sums it, and its masked copy into C.
-#![tactic(auto)]
-
-pub mod kernel;
-pub mod masked;
-mod put;
