@@ -1,0 +1,50 @@
+// The tile of complex f32. Rust: `masked_kernel`, gemm.rs, and the tile's sides in cgemm_kernel.rs.
+ghost use Rattle.std.specs.Prelude.{◌*◌, ◌≤◌, length};
+ghost use Rattle.rules.specs.Held.{float};
+ghost use Rattle.rules.specs.Slice.{Updated, Block};
+ghost use Rattle.element.specs.Fates.{fate_of};
+ghost use Rattle.element.specs.Kinds.{arith_of, view_of, tiling_of};
+ghost use Rattle.element.specs.Numbers.{complex_held};
+ghost use Rattle.element.specs.declared.kind.Kind.TheVariants.{C32};
+ghost use Rattle.layout.specs.Operands.{Writable};
+ghost use Rattle.layout.specs.Place.{index_of};
+ghost use Rattle.loops.specs.Panels.{packing_of};
+ghost use Rattle.loops.specs.Work.{settled};
+
+use crate::complex::kernel;
+use crate::kernels::Kernel;
+use crate::masked::c_to_masked_ab_beta_c;
+use element::complex::Complex32;
+use element::elements::Element;
+use element::fate::Fate;
+use layout::operand::{Operand, transpose};
+
+const MR: usize = <Complex32 as Element>::TILE_ROWS;
+
+const NR: usize = <Complex32 as Element>::TILE_COLUMNS;
+
+impl Kernel for Complex32 {
+    fn masked_kernel(
+        kc: usize,
+        alpha: Complex32,
+        a: &[f32],
+        b: &[f32],
+        fate: Fate<Complex32>,
+        c: &mut [f32],
+        lc: Operand,
+        rows: usize,
+        cols: usize,
+    )
+        requires writable { Writable rows cols lc ((view_of C32).count (length c.old)) }
+        requires rows_le_mr { (rows ≤ (tiling_of C32).mr) × (cols ≤ (tiling_of C32).nr) }
+        requires mr_in_bounds { (kc * (packing_of C32).floats (tiling_of C32).mr ≤ length a.now)
+            × (kc * (packing_of C32).floats (tiling_of C32).nr ≤ length b.now) }
+        ensures { Updated (view_of C32) (index_of lc) (Block rows cols)
+            (settled (arith_of C32) (fate_of (complex_held float).is fate) ((complex_held float).is alpha)
+            ((packing_of C32).lane a.now (tiling_of C32).mr) ((packing_of C32).lane b.now (tiling_of C32).nr) kc)
+            c.old c.new }
+    {
+        let ab = kernel::<Complex32, MR, NR>(kc, alpha, a, b, [0.0; MR], rows);
+        c_to_masked_ab_beta_c(ab, fate, c, transpose(lc), cols, rows);
+    }
+}
