@@ -1,6 +1,6 @@
 // Derived from crates/kernel/src/real32.rt by tools/derive: edit that.
 // The tile of f64. The files of the four kinds are twins, since the gate takes no impl by a macro. Rust: `masked_kernel`, gemm.rs, and the
-// tile's sides in dgemm_kernel.rs.
+// tile's sides in sgemm_kernel.rs.
 ghost use Rattle.std.specs.Prelude.{◌*◌, ◌≤◌, length};
 ghost use Rattle.rules.specs.Held.{float};
 ghost use Rattle.rules.specs.Slice.{Updated, Block};
