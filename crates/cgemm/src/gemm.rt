@@ -6,12 +6,12 @@ ghost use Rattle.call.specs.Call.{call_of};
 ghost use Rattle.call.specs.Outcome.{Outcome};
 
 use crate::scale::c_to_beta_c;
-use call::answer::Answer;
-use call::judge::{Lengths, judged};
+use call::judge::{Lengths, Matrices};
 use cgemm_loops::outer::gemm_loop;
 use element::complex32::{Complex32, Fate, Number};
 use element::kind::Kind;
 use layout::operand::Operand;
+use refusal::Refusal;
 
 // C becomes alpha A B + beta C: A is m by k, B is k by n, C is m by n, each where its operand says in its slice, an element as
 // Complex32::FLOATS neighbouring floats. Done, or a refusal that leaves C and pack as they were. Done, pack holds anything in its first
@@ -29,28 +29,30 @@ pub fn cgemm(
     c: &mut [f32],
     lc: Operand,
     pack: &mut [f32],
-) -> Answer
+) -> Result<(), Refusal>
     ensures { Outcome (call_of C32 m k n (number alpha) la lb (number beta) lc)
         a.now b.now c.old c.new pack.old pack.new result }
 {
+    let over = Matrices {
+        m,
+        k,
+        n,
+        a: la,
+        b: lb,
+        c: lc,
+    };
     let floats = Lengths {
         a: a.len(),
         b: b.len(),
         c: c.len(),
     };
-    let r = judged(Kind::C32, pack.len(), m, k, n, la, lb, lc, floats);
-    if r.number() != 0 {
-        return r;
-    }
-    if m == 0 {
-        return r;
-    }
-    if n == 0 {
-        return r;
+    over.judge(Kind::C32, pack.len(), floats)?;
+    if m == 0 || n == 0 {
+        return Ok(());
     }
     if k == 0 {
         c_to_beta_c(m, n, Fate::from_beta(beta), c, lc);
-        return r;
+        return Ok(());
     }
     gemm_loop(
         Complex32::DEPTH_CHUNK,
@@ -67,5 +69,5 @@ pub fn cgemm(
         lc,
         pack,
     );
-    r
+    Ok(())
 }

@@ -10,7 +10,7 @@ ghost use Rattle.loops.specs.Work.{settled, panels};
 
 use cgemm_kernel::masked::masked_kernel;
 use element::complex32::{Complex32, Fate, Number};
-use layout::operand::{Operand, based_at};
+use layout::operand::Operand;
 use layout::util::{chunk_count, chunk_len};
 
 // LOOP 1: one column of tiles of C, m rows in chunks of the tile's rows.
@@ -37,7 +37,7 @@ fn tile_column(
     while i < count {
         let rows = chunk_len(m, Complex32::TILE_ROWS, i);
         let at = i * (kc * (Complex32::TILE_ROWS * Complex32::FLOATS));
-        let here = based_at(lc, i * Complex32::TILE_ROWS, 0);
+        let here = lc.based_at(i * Complex32::TILE_ROWS, 0);
         masked_kernel(kc, alpha, &a[at..], b, fate, c, here, rows, cols);
         i += 1;
     }
@@ -66,7 +66,7 @@ pub fn gemm_packed(
     while j < count {
         let cols = chunk_len(n, Complex32::TILE_COLUMNS, j);
         let at = j * (kc * (Complex32::TILE_COLUMNS * Complex32::FLOATS));
-        let here = based_at(lc, 0, j * Complex32::TILE_COLUMNS);
+        let here = lc.based_at(0, j * Complex32::TILE_COLUMNS);
         tile_column(kc, m, cols, alpha, a, &b[at..], fate, c, here);
         j += 1;
     }

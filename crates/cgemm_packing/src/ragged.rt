@@ -9,7 +9,7 @@ ghost use Rattle.loops.specs.Panels.{padded};
 ghost use Rattle.loops.specs.Tiles.{up_to, line};
 
 use element::complex32::{Complex32, Number, read};
-use layout::operand::{Operand, place};
+use layout::operand::Operand;
 
 // What one depth step of a panel holds; a panel is at most as wide as the tile has rows.
 pub type Lanes = [Number; Complex32::TILE_ROWS];
@@ -21,7 +21,7 @@ fn element_at(a: &[f32], la: Operand, m: usize, kc: usize, i: usize, p: usize) -
     ensures { number result ≡ padded arith m (element_at kind a.now la) i p }
 {
     if i < m {
-        let at = place(la, i, p);
+        let at = la.place(i, p);
         return read(a, at);
     }
     Complex32::zero()

@@ -11,7 +11,7 @@ ghost use Rattle.loops.specs.Tiles.{up_to, at, line};
 
 use crate::ragged::{Lanes, ragged};
 use element::real64::{Real64, read};
-use layout::operand::{Operand, place};
+use layout::operand::Operand;
 
 // w elements by places from row `first` on, none of them missing.
 fn general(w: usize, a: &[f64], la: Operand, m: usize, kc: usize, first: usize, p: usize) -> Lanes
@@ -22,7 +22,7 @@ fn general(w: usize, a: &[f64], la: Operand, m: usize, kc: usize, first: usize, 
     let mut x = [0.0; Real64::TILE_ROWS];
     let mut i = 0usize;
     while i < w {
-        let at = place(la, first + i, p);
+        let at = la.place(first + i, p);
         x[i] = read(a, at);
         i += 1;
     }
@@ -53,7 +53,7 @@ pub fn lanes(w: usize, a: &[f64], la: Operand, m: usize, kc: usize, first: usize
     if first + w <= m {
         let rs = la.rs;
         if rs == 1 {
-            let from = place(la, first, p);
+            let from = la.place(first, p);
             return contiguous(w, a, from);
         }
         return general(w, a, la, m, kc, first, p);

@@ -2,6 +2,7 @@
 use cgemm::gemm::cgemm;
 use element::complex32::Complex32;
 use layout::operand::Operand;
+use refusal::answer_number;
 use std::io;
 
 // (1 + 2i) times (3 + 4i) over k depth steps, over C = (re, im).
@@ -27,7 +28,7 @@ fn one(
     show::text(rt, b"cgemm ")?;
     show::text(rt, name)?;
     show::text(rt, b" ")?;
-    show::whole(rt, r.number())?;
+    show::whole(rt, answer_number(r))?;
     show::text(rt, b" ")?;
     show::bits32(rt, c[0])?;
     show::text(rt, b" ")?;

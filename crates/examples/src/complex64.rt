@@ -2,6 +2,7 @@
 // P11 and P12 in complex f64.
 use element::complex64::Complex64;
 use layout::operand::Operand;
+use refusal::answer_number;
 use std::io;
 use zgemm::gemm::zgemm;
 
@@ -28,7 +29,7 @@ fn one(
     show::text(rt, b"zgemm ")?;
     show::text(rt, name)?;
     show::text(rt, b" ")?;
-    show::whole(rt, r.number())?;
+    show::whole(rt, answer_number(r))?;
     show::text(rt, b" ")?;
     show::bits64(rt, c[0])?;
     show::text(rt, b" ")?;

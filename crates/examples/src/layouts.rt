@@ -1,17 +1,17 @@
 // The examples that are not marked P: places of C, collisions, the need, the largest size; in both real kinds where they name values. Last,
 // strides that nobody steps along.
 use crate::{reals32, reals64};
-use call::answer::Answer;
 use element::kind::Kind;
-use layout::need::{PackLength, pack_length};
+use layout::need::pack_length;
 use layout::operand::Operand;
+use refusal::{Refusal, answer_number};
 use sgemm::gemm::sgemm;
 use std::io;
 
-pub fn answered(rt: &impl Print, name: &[u8], r: Answer) -> io::Result<()> {
+pub fn answered(rt: &impl Print, name: &[u8], r: Result<(), Refusal>) -> io::Result<()> {
     show::text(rt, name)?;
     show::text(rt, b" ")?;
-    show::whole(rt, r.number())
+    show::whole(rt, answer_number(r))
 }
 
 // An m by n C of so many elements, with these strides.
@@ -43,11 +43,11 @@ fn collides(rt: &impl Print, m: usize, n: usize, lc: Operand, c: &mut [f32]) -> 
 // What the need of an f32 call is, or that it is refused.
 fn need(rt: &impl Print, m: usize, k: usize, n: usize) -> io::Result<()> {
     match pack_length(Kind::F32, m, k, n) {
-        PackLength::Refused(x) => {
+        Err(x) => {
             show::text(rt, b"sgemm need refused ")?;
             show::whole(rt, x.number())?;
         }
-        PackLength::Elements(x) => {
+        Ok(x) => {
             show::text(rt, b"sgemm need ")?;
             show::whole(rt, x as u64)?;
         }

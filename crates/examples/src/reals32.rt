@@ -1,6 +1,7 @@
 // What both real kinds share, in f32: P1 to P5, P10, and three elements that lie downwards.
 use crate::layouts::answered;
 use layout::operand::Operand;
+use refusal::answer_number;
 use sgemm::gemm::sgemm;
 use std::io;
 
@@ -26,7 +27,7 @@ pub fn one(
     show::text(rt, b"sgemm ")?;
     show::text(rt, name)?;
     show::text(rt, b" ")?;
-    show::whole(rt, r.number())?;
+    show::whole(rt, answer_number(r))?;
     show::text(rt, b" ")?;
     show::bits32(rt, c[0])?;
     show::text(rt, b"\n")

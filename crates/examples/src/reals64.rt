@@ -3,6 +3,7 @@
 use crate::layouts::answered;
 use dgemm::gemm::dgemm;
 use layout::operand::Operand;
+use refusal::answer_number;
 use std::io;
 
 // One element: k depth steps of a and b over old.
@@ -27,7 +28,7 @@ pub fn one(
     show::text(rt, b"dgemm ")?;
     show::text(rt, name)?;
     show::text(rt, b" ")?;
-    show::whole(rt, r.number())?;
+    show::whole(rt, answer_number(r))?;
     show::text(rt, b" ")?;
     show::bits64(rt, c[0])?;
     show::text(rt, b"\n")

@@ -5,13 +5,13 @@
 
 ghost use Rattle.std.specs.Prelude.{◌<◌, ◌≤◌};
 
-use call::answer::Answer;
 use dgemm::gemm::dgemm;
 use element::kind::Kind;
-use layout::need::{PackLength, pack_length};
+use layout::need::pack_length;
 use layout::operand::Operand;
-use panel::file::{PanelAnswer, Shape};
+use panel::file::Shape;
 use panel::real64::read_f64;
+use refusal::Refusal;
 use std::fs::File;
 use std::io;
 use std::io::Read;
@@ -50,7 +50,7 @@ fn scored(
     beta: f64,
     scores: &mut Scores,
     base: usize,
-) -> Answer {
+) -> Result<(), Refusal> {
     let mut pack = [0.0f64; PACK];
     let la = rows_of(READINGS, 0);
     let lb = rows_of(SCORES, 0);
@@ -84,25 +84,25 @@ fn show_inverter(rt: &impl Print, scores: &Scores, i: usize) -> io::Result<()>
 }
 
 fn show_scores(rt: &impl Print, scores: &Scores) -> io::Result<()> {
-    show_inverter(rt, scores, 0)?;
-    show_inverter(rt, scores, 1)?;
-    show_inverter(rt, scores, 2)?;
-    show_inverter(rt, scores, 3)
+    for i in 0..INVERTERS {
+        show_inverter(rt, scores, i)?;
+    }
+    Ok(())
 }
 
-fn show_answer(rt: &impl Print, r: Answer) -> io::Result<()> {
+fn show_answer(rt: &impl Print, r: Result<(), Refusal>) -> io::Result<()> {
     show::text(rt, b"  ")?;
     match r {
-        Answer::Done => show::text(rt, b"done")?,
-        Answer::Refused(x) => show::refusal(rt, x)?,
+        Ok(()) => show::text(rt, b"done")?,
+        Err(x) => show::refusal(rt, x)?,
     }
     show::text(rt, b"\n")
 }
 
 fn show_need(rt: &impl Print) -> io::Result<()> {
     match pack_length(Kind::F64, INVERTERS, READINGS, SCORES) {
-        PackLength::Refused(x) => show::refusal(rt, x)?,
-        PackLength::Elements(x) => {
+        Err(x) => show::refusal(rt, x)?,
+        Ok(x) => {
             show::text(rt, b"the pack buffer needs ")?;
             show::whole(rt, x as u64)?;
             show::text(rt, b" elements")?;
@@ -133,14 +133,12 @@ fn show_shape(rt: &impl Print, s: Shape) -> io::Result<()> {
 
 // Reads a file's bytes into numbers, and answers the shape of what these then hold: the file's, or the old one where nothing was stored.
 fn take(rt: &impl Print, bytes: &[u8], numbers: &mut [f64], old: Shape) -> io::Result<Shape> {
-    let answer = read_f64(bytes, numbers);
-    match answer {
-        PanelAnswer::Read(h) => {
-            let shape = h.shape;
-            show_shape(rt, shape)?;
-            Ok(shape)
+    match read_f64(bytes, numbers) {
+        Ok(h) => {
+            show_shape(rt, h.shape)?;
+            Ok(h.shape)
         }
-        PanelAnswer::Refused(x) => {
+        PanelErr(x) => {
             show::refusal(rt, x)?;
             show::text(rt, b"\n  nothing was stored\n")?;
             Ok(old)
@@ -184,21 +182,14 @@ fn take_named(
 }
 
 fn is_shape(s: Shape, rows: usize, columns: usize) -> bool {
-    if s.rows as usize != rows {
-        return false;
-    }
-    s.columns as usize == columns
+    s.rows as usize == rows && s.columns as usize == columns
 }
 
 // Have telemetry, coefficients and correction the night's shapes?
 fn are_shapes(telemetry: Shape, coefficients: Shape, correction: Shape) -> bool {
-    if !is_shape(telemetry, INVERTERS, READINGS) {
-        return false;
-    }
-    if !is_shape(coefficients, READINGS, SCORES) {
-        return false;
-    }
-    is_shape(correction, INVERTERS, READINGS)
+    is_shape(telemetry, INVERTERS, READINGS)
+        && is_shape(coefficients, READINGS, SCORES)
+        && is_shape(correction, INVERTERS, READINGS)
 }
 
 // Scores, corrects and picks.
@@ -232,10 +223,10 @@ fn night(
         rt,
         b"\nSix o'clock: an inverter is flashed where its ready score is above 100; a gap is not\n",
     )?;
-    show_pick(rt, &scores, 0)?;
-    show_pick(rt, &scores, 1)?;
-    show_pick(rt, &scores, 2)?;
-    show_pick(rt, &scores, 3)
+    for i in 0..INVERTERS {
+        show_pick(rt, &scores, i)?;
+    }
+    Ok(())
 }
 
 fn main(rt: HostRuntime) -> io::Result<()> {

@@ -5,11 +5,11 @@ ghost use Rattle.call.specs.Call.{call_of};
 ghost use Rattle.call.specs.Outcome.{Outcome};
 
 use crate::scale::c_to_beta_c;
-use call::answer::Answer;
-use call::judge::{Lengths, judged};
+use call::judge::{Lengths, Matrices};
 use element::kind::Kind;
 use element::real32::{Fate, Number, Real32};
 use layout::operand::Operand;
+use refusal::Refusal;
 use sgemm_loops::outer::gemm_loop;
 
 // C becomes alpha A B + beta C: A is m by k, B is k by n, C is m by n, each where its operand says in its slice, an element as
@@ -28,28 +28,30 @@ pub fn sgemm(
     c: &mut [f32],
     lc: Operand,
     pack: &mut [f32],
-) -> Answer
+) -> Result<(), Refusal>
     ensures { Outcome (call_of F32 m k n (number alpha) la lb (number beta) lc)
         a.now b.now c.old c.new pack.old pack.new result }
 {
+    let over = Matrices {
+        m,
+        k,
+        n,
+        a: la,
+        b: lb,
+        c: lc,
+    };
     let floats = Lengths {
         a: a.len(),
         b: b.len(),
         c: c.len(),
     };
-    let r = judged(Kind::F32, pack.len(), m, k, n, la, lb, lc, floats);
-    if r.number() != 0 {
-        return r;
-    }
-    if m == 0 {
-        return r;
-    }
-    if n == 0 {
-        return r;
+    over.judge(Kind::F32, pack.len(), floats)?;
+    if m == 0 || n == 0 {
+        return Ok(());
     }
     if k == 0 {
         c_to_beta_c(m, n, Fate::from_beta(beta), c, lc);
-        return r;
+        return Ok(());
     }
     gemm_loop(
         Real32::DEPTH_CHUNK,
@@ -66,5 +68,5 @@ pub fn sgemm(
         lc,
         pack,
     );
-    r
+    Ok(())
 }

@@ -8,8 +8,8 @@ ghost use Rattle.loops.specs.Work.{deep, rows_make, panels, RowsAsk, DepthAsks, 
 
 use crate::packed::gemm_packed;
 use element::real32::{Fate, Number, Real32};
-use layout::operand::{Operand, based_at, transpose};
-use layout::util::{chunk_count, chunk_len, least, round_up_to};
+use layout::operand::Operand;
+use layout::util::{chunk_count, chunk_len};
 
 // LOOP 3: one depth chunk of kc steps, m rows in row chunks. B's panels stand in pack from asize on; A's go in front of it.
 fn row_loop(
@@ -34,8 +34,8 @@ fn row_loop(
     let mut i = 0usize;
     while i < count {
         let mc = chunk_len(m, Real32::ROW_CHUNK, i);
-        let pa = based_at(la, i * Real32::ROW_CHUNK, 0);
-        let pc = based_at(lc, i * Real32::ROW_CHUNK, 0);
+        let pa = la.based_at(i * Real32::ROW_CHUNK, 0);
+        let pc = lc.based_at(i * Real32::ROW_CHUNK, 0);
         sgemm_packing::panels::pack(pack, Real32::TILE_ROWS, kc, mc, a, pa);
         let s = &pack[..];
         gemm_packed(kc, mc, n, alpha, &s[..asize], &s[asize..], fate, c, pc);
@@ -81,8 +81,8 @@ fn depth_loop(
     let mut p = 0usize;
     while p < count {
         let kc = chunk_len(k, chunk, p);
-        let pa = based_at(la, 0, p * chunk);
-        let pb = transpose(based_at(lb, p * chunk, 0));
+        let pa = la.based_at(0, p * chunk);
+        let pb = lb.based_at(p * chunk, 0).transpose();
         sgemm_packing::panels::pack(&mut pack[asize..], Real32::TILE_COLUMNS, kc, n, b, pb);
         let by = multiplier(beta, p);
         let fate = Fate::from_beta(by);
@@ -113,14 +113,14 @@ pub fn gemm_loop(
         (need_of tiling chunk m k n * per_element kind)
         c.old c.new pack.old pack.new }
 {
-    let rows = round_up_to(least(m, Real32::ROW_CHUNK), Real32::TILE_ROWS);
-    let asize = least(k, chunk) * (rows * Real32::FLOATS);
+    let rows = m.min(Real32::ROW_CHUNK).next_multiple_of(Real32::TILE_ROWS);
+    let asize = k.min(chunk) * (rows * Real32::FLOATS);
     let count = chunk_count(n, Real32::COLUMN_CHUNK);
     let mut j = 0usize;
     while j < count {
         let nc = chunk_len(n, Real32::COLUMN_CHUNK, j);
-        let pb = based_at(lb, 0, j * Real32::COLUMN_CHUNK);
-        let pc = based_at(lc, 0, j * Real32::COLUMN_CHUNK);
+        let pb = lb.based_at(0, j * Real32::COLUMN_CHUNK);
+        let pc = lc.based_at(0, j * Real32::COLUMN_CHUNK);
         depth_loop(
             chunk, m, k, nc, alpha, a, la, b, pb, beta, c, pc, pack, asize,
         );

@@ -8,7 +8,7 @@ ghost use Rattle.loops.specs.Panels.{packing_of, unpacked};
 ghost use Rattle.loops.specs.Work.{settled, panels};
 
 use element::real32::{Fate, Number, Real32};
-use layout::operand::{Operand, based_at};
+use layout::operand::Operand;
 use layout::util::{chunk_count, chunk_len};
 use sgemm_kernel::masked::masked_kernel;
 
@@ -36,7 +36,7 @@ fn tile_column(
     while i < count {
         let rows = chunk_len(m, Real32::TILE_ROWS, i);
         let at = i * (kc * (Real32::TILE_ROWS * Real32::FLOATS));
-        let here = based_at(lc, i * Real32::TILE_ROWS, 0);
+        let here = lc.based_at(i * Real32::TILE_ROWS, 0);
         masked_kernel(kc, alpha, &a[at..], b, fate, c, here, rows, cols);
         i += 1;
     }
@@ -65,7 +65,7 @@ pub fn gemm_packed(
     while j < count {
         let cols = chunk_len(n, Real32::TILE_COLUMNS, j);
         let at = j * (kc * (Real32::TILE_COLUMNS * Real32::FLOATS));
-        let here = based_at(lc, 0, j * Real32::TILE_COLUMNS);
+        let here = lc.based_at(0, j * Real32::TILE_COLUMNS);
         tile_column(kc, m, cols, alpha, a, &b[at..], fate, c, here);
         j += 1;
     }

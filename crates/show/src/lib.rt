@@ -77,29 +77,7 @@ pub fn hundredths(rt: &impl Print, x: f64) -> io::Result<()> {
     print!(rt; "{}.{}{}", n / 100, n / 10 % 10, n % 10)
 }
 
-// What a refusal means, in the words of the C header.
-fn meaning(x: Refusal) -> &'static str {
-    match x {
-        Refusal::TooLarge => "m, k or n is above 65,536",
-        Refusal::TooFar => {
-            "a stride of A, B or C along an axis of two or more entries is above 2,147,483,648 in magnitude"
-        }
-        Refusal::OutsideC => "a place of C is outside C's slice",
-        Refusal::CollidesC => "two different places of C are the same element",
-        Refusal::OutsideA => "a place of A is outside A's slice",
-        Refusal::OutsideB => "a place of B is outside B's slice",
-        Refusal::PackShort => "the pack buffer is shorter than the need",
-        Refusal::FileShort => "the file has fewer than ten bytes",
-        Refusal::WrongMark => "the file does not begin with the mark IVP",
-        Refusal::UnknownVersion => "the file's version is not known",
-        Refusal::WrongKind => "the file's kind is not the one asked for",
-        Refusal::WrongLength => "the file's length is not what its rows and columns say",
-        Refusal::NoRoom => "the destination is shorter than the panel",
-        Refusal::OutsidePanel => "the place is outside the panel's shape or beyond its numbers",
-    }
-}
-
 // A refusal by its number, and what it means.
 pub fn refusal(rt: &impl Print, x: Refusal) -> io::Result<()> {
-    print!(rt; "refused with {}: {}", x.number(), meaning(x))
+    print!(rt; "refused with {}: {x}", x.number())
 }

@@ -6,11 +6,11 @@ ghost use Rattle.call.specs.Call.{call_of};
 ghost use Rattle.call.specs.Outcome.{Outcome};
 
 use crate::scale::c_to_beta_c;
-use call::answer::Answer;
-use call::judge::{Lengths, judged};
+use call::judge::{Lengths, Matrices};
 use element::complex64::{Complex64, Fate, Number};
 use element::kind::Kind;
 use layout::operand::Operand;
+use refusal::Refusal;
 use zgemm_loops::outer::gemm_loop;
 
 // C becomes alpha A B + beta C: A is m by k, B is k by n, C is m by n, each where its operand says in its slice, an element as
@@ -29,28 +29,30 @@ pub fn zgemm(
     c: &mut [f64],
     lc: Operand,
     pack: &mut [f64],
-) -> Answer
+) -> Result<(), Refusal>
     ensures { Outcome (call_of C64 m k n (number alpha) la lb (number beta) lc)
         a.now b.now c.old c.new pack.old pack.new result }
 {
+    let over = Matrices {
+        m,
+        k,
+        n,
+        a: la,
+        b: lb,
+        c: lc,
+    };
     let floats = Lengths {
         a: a.len(),
         b: b.len(),
         c: c.len(),
     };
-    let r = judged(Kind::C64, pack.len(), m, k, n, la, lb, lc, floats);
-    if r.number() != 0 {
-        return r;
-    }
-    if m == 0 {
-        return r;
-    }
-    if n == 0 {
-        return r;
+    over.judge(Kind::C64, pack.len(), floats)?;
+    if m == 0 || n == 0 {
+        return Ok(());
     }
     if k == 0 {
         c_to_beta_c(m, n, Fate::from_beta(beta), c, lc);
-        return r;
+        return Ok(());
     }
     gemm_loop(
         Complex64::DEPTH_CHUNK,
@@ -67,5 +69,5 @@ pub fn zgemm(
         lc,
         pack,
     );
-    r
+    Ok(())
 }

@@ -8,7 +8,7 @@ ghost use Rattle.layout.specs.Place.{index_of};
 ghost use Rattle.layout.specs.Operands.{Writable};
 
 use element::complex64::{Fate, read, write};
-use layout::operand::{Operand, place};
+use layout::operand::Operand;
 
 // The element (i,j) of C: beta times it, or +0 where beta is zero.
 fn scale_one(m: usize, n: usize, fate: Fate, c: &mut [f64], lc: Operand, i: usize, j: usize)
@@ -16,7 +16,7 @@ fn scale_one(m: usize, n: usize, fate: Fate, c: &mut [f64], lc: Operand, i: usiz
     requires i_lt_m { (i < m) × (j < n) }
     ensures { Updated view (index_of lc) (Region i 1 j 1) (λ i j. scaled arith (fate_of fate)) c.old c.new }
 {
-    let at = place(lc, i, j);
+    let at = lc.place(i, j);
     let old = read(c, at);
     write(c, at, fate.scaled(old));
 }

@@ -8,7 +8,7 @@ ghost use Rattle.layout.specs.Place.{index_of};
 ghost use Rattle.layout.specs.Operands.{Writable};
 
 use element::complex64::{Fate, Number, read, write};
-use layout::operand::{Operand, place};
+use layout::operand::Operand;
 
 // The element (i,j) of rows by cols of C.
 pub fn put_one(
@@ -26,7 +26,7 @@ pub fn put_one(
     ensures { Updated view (index_of lc) (Region i 1 j 1) (λ i j. put arith (fate_of fate) (number part))
         c.old c.new }
 {
-    let at = place(lc, i, j);
+    let at = lc.place(i, j);
     let old = read(c, at);
     write(c, at, fate.put(part, old));
 }

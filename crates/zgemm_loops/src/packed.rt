@@ -9,7 +9,7 @@ ghost use Rattle.loops.specs.Panels.{packing_of, unpacked};
 ghost use Rattle.loops.specs.Work.{settled, panels};
 
 use element::complex64::{Complex64, Fate, Number};
-use layout::operand::{Operand, based_at};
+use layout::operand::Operand;
 use layout::util::{chunk_count, chunk_len};
 use zgemm_kernel::masked::masked_kernel;
 
@@ -37,7 +37,7 @@ fn tile_column(
     while i < count {
         let rows = chunk_len(m, Complex64::TILE_ROWS, i);
         let at = i * (kc * (Complex64::TILE_ROWS * Complex64::FLOATS));
-        let here = based_at(lc, i * Complex64::TILE_ROWS, 0);
+        let here = lc.based_at(i * Complex64::TILE_ROWS, 0);
         masked_kernel(kc, alpha, &a[at..], b, fate, c, here, rows, cols);
         i += 1;
     }
@@ -66,7 +66,7 @@ pub fn gemm_packed(
     while j < count {
         let cols = chunk_len(n, Complex64::TILE_COLUMNS, j);
         let at = j * (kc * (Complex64::TILE_COLUMNS * Complex64::FLOATS));
-        let here = based_at(lc, 0, j * Complex64::TILE_COLUMNS);
+        let here = lc.based_at(0, j * Complex64::TILE_COLUMNS);
         tile_column(kc, m, cols, alpha, a, &b[at..], fate, c, here);
         j += 1;
     }
