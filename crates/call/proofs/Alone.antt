@@ -1,12 +1,12 @@
 -- "A row's trouble stays in its row", and a column's in its column: whatever layouts and slices two accepted calls have. Assumes nothing.
-use Rattle.std.specs.Prelude.{ℕ, ◌<◌, length, Float}
+use Rattle.std.specs.Prelude.{ℕ, ◌<◌, length, Float, Result}
 use mathlib.Core.{Path.◌≡◌, Path.sym, Path.◌∙◌, Path.subst, List.List}
+use Rattle.refusal.specs.{declared.Refusal.Refusal, Numbers.answer_number}
 use Rattle.rules.specs.{Element.element, Agree.element_agree}
 use Rattle.element.specs.{declared.kind.Kind.Kind, Kinds.arith_of}
 use Rattle.call.specs.Call.{Call, chunk, row_of, column_of, Does}
-use Rattle.call.specs.declared.answer.Answer.{Answer}
 use Rattle.call.specs.Verdict.{lengths, Verdict}
-use Rattle.call.specs.Outcome.{answer_number, Outcome}
+use Rattle.call.specs.Outcome.{Outcome}
 use Rattle.call.specs.Statements.{Alike, in_c, EqualRowA, EqualColumnB, Accepted, RowStays, ColumnStays}
 
 -- the element (i, j) is made of row i of A, column j of B and its old value
@@ -22,7 +22,7 @@ element_alone {kind} q r alike A B C D A' B' C' D' one two i j hi hj row column 
     ∙ sym (two.inside i j (subst (λ (x : ℕ). i < x) alike.m hi, subst (λ (x : ℕ). j < x) alike.n hj))
 
 -- what the entry points promise is enough
-pub outcome_accepted : {kind : Kind} (q : Call kind) (A B C D P Q : List Float) (r : Answer) → Outcome q A B C D P Q r
+pub outcome_accepted : {kind : Kind} (q : Call kind) (A B C D P Q : List Float) (r : Result Unit Refusal) → Outcome q A B C D P Q r
     → answer_number r ≡ 0 → Accepted q A B C D
 outcome_accepted q A B C D P Q r o e = (Verdict (length P) q (lengths A B C), answer_number r, o.c, e)
 

@@ -1,13 +1,14 @@
 -- DEMAND 3: a call cut into pieces ends in the same C. Any list of pieces that cuts the call, and the user's grids. Assumes nothing.
-use Rattle.std.specs.Prelude.{ℕ, zero, suc, ◌≤◌, ◌<◌}
+use Rattle.std.specs.Prelude.{ℕ, zero, suc, ◌≤◌, ◌<◌, Result}
 use mathlib.Core.{Path.◌≡◌, Path.refl, Path.sym, Path.◌∙◌, Path.subst, List.List}
 use Rattle.std.proofs.Common.{arith}
 use lib.{ListN.length, Ieee.Float}
+use Rattle.refusal.specs.{declared.Refusal.Refusal, Numbers.answer_number}
 use Rattle.rules.specs.Pieces.{Piece, Cuts}
 use Rattle.rules.proofs.GridLaws.{grid_cuts}
 use Rattle.element.specs.declared.kind.Kind.{Kind}
-use Rattle.call.specs.{declared.answer.Answer.Answer, declared.judge.Lengths.Lengths, Call.Call, Call.chunk, Call.Does}
-use Rattle.call.specs.{Verdict.lengths, Verdict.Verdict, Outcome.answer_number, Outcome.Leaves, Outcome.Outcome}
+use Rattle.call.specs.{declared.judge.Lengths.Lengths, Call.Call, Call.chunk, Call.Does}
+use Rattle.call.specs.{Verdict.lengths, Verdict.Verdict, Outcome.Leaves, Outcome.Outcome}
 use Rattle.call.specs.{Pieces.piece_call, Pieces.InTurn, Statements.Taken, Statements.CutDemand3, Statements.Demand3}
 use Rattle.call.proofs.PieceLaws.{piece_accepted, pieces_do, does_same, does_long}
 use Rattle.call.specs.OneOutcome.{verdict_one}
@@ -40,7 +41,7 @@ pub demand3 : Demand3
 demand3 kind pack q A B slice number g taken runs = cut_demand3 kind pack q A B slice number g.turns _ taken (grid_cuts g) runs
 
 module _ {kind : Kind} (q : Call kind) (A B : List Float) (N : ℕ) (piece : ℕ → Piece) (slice pack : ℕ → List Float)
-    (answer : ℕ → Answer) where
+    (answer : ℕ → Result Unit Refusal) where
   -- whole calls, each over the pack buffer that the one before left, are pieces in turn
   pub in_turn : ((t : ℕ) → t < N → Outcome (piece_call q (piece t)) A B (slice t) (slice (suc t)) (pack t) (pack (suc t)) (answer t))
       → InTurn q A B N piece (length (pack 0)) slice (λ t. answer_number (answer t))
@@ -56,7 +57,7 @@ module _ {kind : Kind} (q : Call kind) (A B : List Float) (N : ℕ) (piece : ℕ
   -- and so what the whole call itself would leave
   pub demand3_same : Taken (length (pack 0)) q A B (slice 0) → Cuts (chunk q) q.over.m q.over.k q.over.n N piece
       → InTurn q A B N piece (length (pack 0)) slice (λ t. answer_number (answer t))
-      → (D Q : List Float) (r : Answer) → Outcome q A B (slice 0) D (pack 0) Q r → D ≡ slice N
+      → (D Q : List Float) (r : Result Unit Refusal) → Outcome q A B (slice 0) D (pack 0) Q r → D ≡ slice N
   demand3_same taken cuts runs D Q r o =
       let e = verdict_one (length (pack 0)) q (lengths A B (slice 0)) (answer_number r) 0 o.c.answer taken.0 in
       does_same q A B (slice 0) D (slice N) (o.c.accepted e)

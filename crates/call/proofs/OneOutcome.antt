@@ -1,9 +1,10 @@
 -- Any two outcomes of one call are equal, but for the first need elements of the pack buffer (docs/EXCEPTIONS.md). Assumes nothing.
 use Rattle.std.specs.Prelude.{◌≡◌, ℕ, ◌<◌, List, Float, length}
 use Rattle.std.proofs.Common.{sym, ◌∙◌, subst}
+use Rattle.refusal.specs.Numbers.{answer_number}
 use Rattle.element.specs.declared.kind.Kind.{Kind}
 use Rattle.call.specs.{Call.Call, Call.Does, Verdict.lengths, Verdict.Verdict}
-use Rattle.call.specs.{Outcome.answer_number, Outcome.PackLeft, Statements.OnePack, Statements.OneOutcome}
+use Rattle.call.specs.{Outcome.PackLeft, Statements.OnePack, Statements.OneOutcome}
 use Rattle.call.specs.OneOutcome.{same_answer, one_left, verdict_one}
 use Rattle.call.proofs.PieceLaws.{does_same}
 

@@ -1,16 +1,16 @@
 -- The ways in which an entry point ends: refused, with nothing to do, depth zero, and after its loops. Assumes nothing.
-use Rattle.std.specs.Prelude.{ℕ, ◌<◌}
+use Rattle.std.specs.Prelude.{ℕ, ◌<◌, Result}
 use mathlib.Core.{Path.◌≡◌, Path.refl, Logic.◌⊎◌, Logic.inl, Logic.inr, List.List}
 use native.Mathlib.Omega.{arith}
 use lib.{ListN.length, Ieee.Float}
-use Rattle.refusal.specs.Order.{Says}
+use Rattle.refusal.specs.{declared.Refusal.Refusal, Numbers.answer_number, Order.Says}
 use Rattle.rules.specs.{Slice.Block}
 use Rattle.rules.specs.SliceLaws.{untouched}
 use Rattle.element.specs.{declared.kind.Kind.Kind, Kinds.view_of, Kinds.tiling_of}
 use Rattle.layout.specs.{Place.index_of, Need.need_of}
-use Rattle.call.specs.{declared.answer.Answer.Answer, Call.Call, Call.chunk, Call.Does}
+use Rattle.call.specs.{Call.Call, Call.chunk, Call.Does}
 use Rattle.call.specs.Verdict.{lengths, Verdict}
-use Rattle.call.specs.Outcome.{answer_number, Leaves, Idle, Kept, PackLeft, Outcome}
+use Rattle.call.specs.Outcome.{Leaves, Idle, Kept, PackLeft, Outcome}
 
 -- ---- C, of whatever says its number and does its work
 
@@ -43,7 +43,7 @@ module _ {kind : Kind} (q : Call kind) (P : List Float) (r : ℕ) where
       → Kept kind (need_of (tiling_of kind) (chunk q) q.over.m q.over.k q.over.n) P Q → PackLeft q P Q r
   pack_used Q ok busy k = record { refused = λ h. absurd (let z : ⊥ = omega arith in z); idle = λ z. absurd (busy z); kept = k }
 
-module _ {kind : Kind} (q : Call kind) (A B C P : List Float) (r : Answer)
+module _ {kind : Kind} (q : Call kind) (A B C P : List Float) (r : Result Unit Refusal)
     (v : Verdict (length P) q (lengths A B C) (answer_number r)) where
   pub out_refused : 0 < answer_number r → Outcome q A B C C P P r
   out_refused h = record {

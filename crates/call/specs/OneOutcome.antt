@@ -1,20 +1,20 @@
 -- A number is one answer's only; one C, of what says one number and does one thing. Assumes nothing.
-use Rattle.std.specs.Prelude.{ℕ, ◌<◌}
+use Rattle.std.specs.Prelude.{ℕ, ◌<◌, Result, Ok, Err}
 use mathlib.Core.{Path.◌≡◌, Path.refl, Path.sym, Path.ap, Path.◌∙◌, Path.subst, List.List}
 use native.Mathlib.{Decide.dec_lt, Omega.arith}
 use lib.{Ieee.Float}
-use Rattle.refusal.specs.{Order.Says, OrderLaws.One}
+use Rattle.refusal.specs.{declared.Refusal.Refusal, Numbers.answer_number, Order.Says, OrderLaws.One}
 use Rattle.refusal.proofs.NumberLaws.{same_refusal, refusal_not_zero}
 use Rattle.element.specs.declared.kind.Kind.{Kind}
-use Rattle.call.specs.{declared.answer.Answer.Answer, declared.judge.Lengths.Lengths, Call.Call, Verdict.Verdict}
-use Rattle.call.specs.{Outcome.answer_number, Outcome.Leaves, StageLaws.judged_one}
+use Rattle.call.specs.{declared.judge.Lengths.Lengths, Call.Call, Verdict.Verdict}
+use Rattle.call.specs.{Outcome.Leaves, StageLaws.judged_one}
 
 -- a number is one answer's only
-pub same_answer : (r r' : Answer) → answer_number r ≡ answer_number r' → r ≡ r'
-same_answer Answer.Done Answer.Done e = refl
-same_answer Answer.Done (Answer.Refused y) e = absurd (refusal_not_zero y (sym e))
-same_answer (Answer.Refused x) Answer.Done e = absurd (refusal_not_zero x e)
-same_answer (Answer.Refused x) (Answer.Refused y) e = ap Answer.Refused (same_refusal x y e)
+pub same_answer : (r r' : Result Unit Refusal) → answer_number r ≡ answer_number r' → r ≡ r'
+same_answer (Ok u) (Ok v) e = refl
+same_answer (Ok u) (Err y) e = absurd (refusal_not_zero y (sym e))
+same_answer (Err x) (Ok v) e = absurd (refusal_not_zero x e)
+same_answer (Err x) (Err y) e = ap Err (same_refusal x y e)
 
 -- ONE C: of what says one number and does one thing
 pub one_left : (says : Says) (does : List Float → List Float → Type 0) → One says

@@ -1,5 +1,7 @@
 -- The theorems of calls, as statements: nothing here is part of a promise. Statements only.
-use Rattle.std.specs.Prelude.{ℕ, ◌<◌, ◌≡◌, List, Float}
+use Rattle.std.specs.Prelude.{ℕ, ◌<◌, ◌≡◌, List, Float, Result}
+use Rattle.refusal.specs.declared.Refusal.{Refusal}
+use Rattle.refusal.specs.Numbers.{answer_number}
 use Rattle.refusal.specs.Order.{Says}
 use Rattle.rules.specs.Grid.{Grid, grid_piece}
 use Rattle.rules.specs.Pieces.{Piece, Cuts}
@@ -7,10 +9,9 @@ use Rattle.element.specs.declared.kind.Kind.{Kind}
 use Rattle.element.specs.Kinds.{arith_of, tiling_of}
 use Rattle.layout.specs.Place.{element_at}
 use Rattle.layout.specs.Need.{need_of}
-use Rattle.call.specs.declared.answer.Answer.{Answer}
 use Rattle.call.specs.Call.{Call, chunk, row_of, column_of, Does}
 use Rattle.call.specs.Verdict.{lengths, Verdict}
-use Rattle.call.specs.Outcome.{answer_number, Leaves, Idle, Kept, Outcome}
+use Rattle.call.specs.Outcome.{Leaves, Idle, Kept, Outcome}
 use Rattle.call.specs.Pieces.{InTurn, Ends}
 
 -- two pack buffers after a call that was answered r: the same where it was refused or idle, and from the need on always
@@ -21,7 +22,7 @@ pub record OnePack {kind : Kind} (q : Call kind) (Q Q' : List Float) (r : ℕ) :
 
 -- "any two results allowed by the statement are shown equal", but for the first need elements of the pack buffer
 abbrev pub OneOutcome : Type 0
-OneOutcome = (kind : Kind) (q : Call kind) (A B C D D' P Q Q' : List Float) (r r' : Answer)
+OneOutcome = (kind : Kind) (q : Call kind) (A B C D D' P Q Q' : List Float) (r r' : Result Unit Refusal)
     → Outcome q A B C D P Q r → Outcome q A B C D' P Q' r'
     → (r ≡ r') × (D ≡ D') × OnePack q Q Q' (answer_number r)
 

@@ -2,8 +2,9 @@
 // strides that nobody steps along.
 use crate::{reals32, reals64};
 use element::kind::Kind;
-use layout::need::{PackLength, pack_length};
+use layout::need::pack_length;
 use layout::operand::Operand;
+use refusal::{Refusal, answer_number};
 use sgemm::gemm::sgemm;
 use show::Bits;
 use std::io;
@@ -29,8 +30,8 @@ fn collides(rt: &impl Print, m: usize, n: usize, lc: Operand, c: &mut [f32]) -> 
 // What the need of an f32 call is, or that it is refused.
 fn need(rt: &impl Print, m: usize, k: usize, n: usize) -> io::Result<()> {
     match pack_length(Kind::F32, m, k, n) {
-        PackLength::Refused(x) => println!(rt; "sgemm need refused {}", x.number()),
-        PackLength::Elements(x) => println!(rt; "sgemm need {x}"),
+        Err(x) => println!(rt; "sgemm need refused {}", x.number()),
+        Ok(x) => println!(rt; "sgemm need {x}"),
     }
 }
 

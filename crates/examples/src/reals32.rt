@@ -1,5 +1,6 @@
 // What both real kinds share, in f32: P1 to P5, P10, and three elements that lie downwards.
 use layout::operand::Operand;
+use refusal::answer_number;
 use sgemm::gemm::sgemm;
 use show::Bits;
 use std::io;

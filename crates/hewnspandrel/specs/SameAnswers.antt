@@ -3,10 +3,10 @@
 use Rattle.std.specs.Prelude.{ℕ, zero, suc, ◌≡◌, refl, List, Float}
 use Rattle.std.proofs.Common.{sym, ap, ◌∙◌, subst, arith}
 use Rattle.std.specs.Float.{Format}
+use Rattle.refusal.specs.Numbers.{answer_number}
 use Rattle.element.specs.declared.kind.Kind.{Kind}
 use Rattle.layout.specs.NeedLaws.{pack_length_same}
 use Rattle.call.specs.Call.{Call}
-use Rattle.call.specs.Outcome.{answer_number}
 use Rattle.call.specs.Statements.{OnePack}
 use Rattle.call.proofs.OneOutcome.{one_outcome}
 use Rattle.panel.specs.declared.file.Shape.{Shape}

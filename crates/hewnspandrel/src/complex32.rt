@@ -10,6 +10,7 @@ use cgemm::gemm::cgemm;
 use element::complex32::Number;
 use element::kind::Kind;
 use layout::operand::Operand;
+use refusal::answer_number;
 
 // cgemm, answered by its number.
 #[unsafe(no_mangle)]
@@ -30,8 +31,8 @@ pub extern "C" fn hewn_cgemm(
     ensures { Answered (call_of C32 m k n (number alpha) la lb (number beta) lc)
         a.now b.now c.old c.new pack.old pack.new result }
 {
-    let r = cgemm(m, k, n, alpha, a, la, b, lb, beta, c, lc, pack);
-    r.number()
+    let answer = cgemm(m, k, n, alpha, a, la, b, lb, beta, c, lc, pack);
+    answer_number(answer)
 }
 
 // How long must the pack buffer be?

@@ -9,6 +9,7 @@ use crate::length::{Length, length_of};
 use element::complex64::Number;
 use element::kind::Kind;
 use layout::operand::Operand;
+use refusal::answer_number;
 use zgemm::gemm::zgemm;
 
 // zgemm, answered by its number.
@@ -30,8 +31,8 @@ pub extern "C" fn hewn_zgemm(
     ensures { Answered (call_of C64 m k n (number alpha) la lb (number beta) lc)
         a.now b.now c.old c.new pack.old pack.new result }
 {
-    let r = zgemm(m, k, n, alpha, a, la, b, lb, beta, c, lc, pack);
-    r.number()
+    let answer = zgemm(m, k, n, alpha, a, la, b, lb, beta, c, lc, pack);
+    answer_number(answer)
 }
 
 // How long must the pack buffer be?

@@ -2,11 +2,12 @@
 ghost use Rattle.std.specs.Prelude.{◌≡◌};
 ghost use Rattle.hewnspandrel.specs.Answers.{head_of};
 
-use panel::file::PanelAnswer;
+use panel::file::Header;
+use refusal::Refusal;
 
 // 0 and what the file's head says, or the refusal's number and zeros.
 #[repr(C)]
-#[derive(Clone, Copy)]
+#[derive(Clone, Copy, Debug, PartialEq, Eq)]
 pub struct Head {
     pub answer: u64,
     pub version: u16,
@@ -14,24 +15,21 @@ pub struct Head {
     pub columns: u16,
 }
 
-pub fn head_of(answer: PanelAnswer) -> Head
+pub fn head_of(answer: Result<Header, Refusal>) -> Head
     ensures { result ≡ head_of answer }
 {
     match answer {
-        PanelAnswer::Read(h) => Head {
+        Ok(h) => Head {
             answer: 0,
             version: h.version,
             rows: h.shape.rows,
             columns: h.shape.columns,
         },
-        PanelAnswer::Refused(x) => {
-            let number = x.number();
-            Head {
-                answer: number,
-                version: 0,
-                rows: 0,
-                columns: 0,
-            }
-        }
+        Err(x) => Head {
+            answer: x.number(),
+            version: 0,
+            rows: 0,
+            columns: 0,
+        },
     }
 }

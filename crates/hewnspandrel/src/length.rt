@@ -2,11 +2,11 @@
 ghost use Rattle.hewnspandrel.specs.Answers.{Asked};
 
 use element::kind::Kind;
-use layout::need::{PackLength, pack_length};
+use layout::need::pack_length;
 
 // 0 and the length in elements, or the refusal's number and 0.
 #[repr(C)]
-#[derive(Clone, Copy)]
+#[derive(Clone, Copy, Debug, PartialEq, Eq)]
 pub struct Length {
     pub answer: u64,
     pub elements: usize,
@@ -16,16 +16,13 @@ pub fn length_of(kind: Kind, m: usize, k: usize, n: usize) -> Length
     ensures { Asked kind m k n result }
 {
     match pack_length(kind, m, k, n) {
-        PackLength::Elements(x) => Length {
+        Ok(elements) => Length {
             answer: 0,
-            elements: x,
+            elements,
         },
-        PackLength::Refused(x) => {
-            let number = x.number();
-            Length {
-                answer: number,
-                elements: 0,
-            }
-        }
+        Err(x) => Length {
+            answer: x.number(),
+            elements: 0,
+        },
     }
 }

@@ -3,7 +3,7 @@ ghost use Rattle.std.specs.Float.{binary32};
 ghost use Rattle.hewnspandrel.specs.Answers.{FileRead, ElementAnswered};
 
 use crate::head::{Head, head_of};
-use panel::real32::{ElementAnswer, element_at, read_f32};
+use panel::real32::{element_at, read_f32};
 
 // 0 and the element, or the refusal's number and a NaN.
 #[repr(C)]
@@ -18,8 +18,7 @@ pub struct Element {
 pub extern "C" fn hewn_read_f32(file: &[u8], numbers: &mut [f32]) -> Head
     ensures { FileRead binary32 file.now numbers.old numbers.new result }
 {
-    let r = read_f32(file, numbers);
-    head_of(r)
+    head_of(read_f32(file, numbers))
 }
 
 // The element at a place of a panel.
@@ -35,17 +34,13 @@ pub extern "C" fn hewn_panel_element_f32(
         result.answer result.element }
 {
     match element_at(numbers, rows, columns, row, column) {
-        ElementAnswer::Element(x) => Element {
+        Ok(x) => Element {
             answer: 0,
             element: x,
         },
-        ElementAnswer::Refused(x) => {
-            let number = x.number();
-            let none = 0.0 / 0.0;
-            Element {
-                answer: number,
-                element: none,
-            }
-        }
+        Err(x) => Element {
+            answer: x.number(),
+            element: f32::NAN,
+        },
     }
 }

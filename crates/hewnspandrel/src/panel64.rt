@@ -4,7 +4,7 @@ ghost use Rattle.std.specs.Float.{binary64};
 ghost use Rattle.hewnspandrel.specs.Answers.{FileRead, ElementAnswered};
 
 use crate::head::{Head, head_of};
-use panel::real64::{ElementAnswer, element_at, read_f64};
+use panel::real64::{element_at, read_f64};
 
 // 0 and the element, or the refusal's number and a NaN.
 #[repr(C)]
@@ -19,8 +19,7 @@ pub struct Element {
 pub extern "C" fn hewn_read_f64(file: &[u8], numbers: &mut [f64]) -> Head
     ensures { FileRead binary64 file.now numbers.old numbers.new result }
 {
-    let r = read_f64(file, numbers);
-    head_of(r)
+    head_of(read_f64(file, numbers))
 }
 
 // The element at a place of a panel.
@@ -36,17 +35,13 @@ pub extern "C" fn hewn_panel_element_f64(
         result.answer result.element }
 {
     match element_at(numbers, rows, columns, row, column) {
-        ElementAnswer::Element(x) => Element {
+        Ok(x) => Element {
             answer: 0,
             element: x,
         },
-        ElementAnswer::Refused(x) => {
-            let number = x.number();
-            let none = 0.0 / 0.0;
-            Element {
-                answer: number,
-                element: none,
-            }
-        }
+        Err(x) => Element {
+            answer: x.number(),
+            element: f64::NAN,
+        },
     }
 }

@@ -8,6 +8,7 @@ use crate::length::{Length, length_of};
 use element::kind::Kind;
 use element::real32::Number;
 use layout::operand::Operand;
+use refusal::answer_number;
 use sgemm::gemm::sgemm;
 
 // sgemm, answered by its number.
@@ -29,8 +30,8 @@ pub extern "C" fn hewn_sgemm(
     ensures { Answered (call_of F32 m k n (number alpha) la lb (number beta) lc)
         a.now b.now c.old c.new pack.old pack.new result }
 {
-    let r = sgemm(m, k, n, alpha, a, la, b, lb, beta, c, lc, pack);
-    r.number()
+    let answer = sgemm(m, k, n, alpha, a, la, b, lb, beta, c, lc, pack);
+    answer_number(answer)
 }
 
 // How long must the pack buffer be?

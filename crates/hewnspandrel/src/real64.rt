@@ -10,6 +10,7 @@ use dgemm::gemm::dgemm;
 use element::kind::Kind;
 use element::real64::Number;
 use layout::operand::Operand;
+use refusal::answer_number;
 
 // dgemm, answered by its number.
 #[unsafe(no_mangle)]
@@ -30,8 +31,8 @@ pub extern "C" fn hewn_dgemm(
     ensures { Answered (call_of F64 m k n (number alpha) la lb (number beta) lc)
         a.now b.now c.old c.new pack.old pack.new result }
 {
-    let r = dgemm(m, k, n, alpha, a, la, b, lb, beta, c, lc, pack);
-    r.number()
+    let answer = dgemm(m, k, n, alpha, a, la, b, lb, beta, c, lc, pack);
+    answer_number(answer)
 }
 
 // How long must the pack buffer be?

@@ -6,51 +6,13 @@ ghost use Rattle.layout.specs.Operands.{Tells, Modest};
 ghost use Rattle.layout.specs.Splits.{LeastSteps};
 
 use crate::operand::Operand;
-use crate::strides::{magnitude, reach, span_of};
+use crate::strides::{reach, span_of};
 
 // Is a stride along so many entries above 2,147,483,648 in magnitude? With fewer than two nobody steps along it, and any isize will do.
 fn long_stride(entries: usize, stride: isize) -> bool
     ensures { Tells result (LongStride entries stride) }
 {
-    if entries < 2 {
-        return false;
-    }
-    magnitude(stride) > 2147483648
-}
-
-// The same of either stride.
-pub fn too_long(rows: usize, columns: usize, o: Operand) -> bool
-    ensures { Tells result (Long rows columns o) }
-{
-    if long_stride(rows, o.rs) {
-        return true;
-    }
-    long_stride(columns, o.cs)
-}
-
-// Is some place (i,j), i below rows, j below columns, outside a slice of len elements? The lowest and the highest corner decide.
-pub fn outside(rows: usize, columns: usize, o: Operand, len: usize) -> bool
-    requires { Modest rows columns o }
-    ensures { Tells result (SomeOutside rows columns o len) }
-{
-    if rows == 0 {
-        return false;
-    }
-    if columns == 0 {
-        return false;
-    }
-    let base = o.base;
-    let down = span_of(rows, o.rs);
-    let across = span_of(columns, o.cs);
-    let low = down.below + across.below;
-    let high = down.above + across.above;
-    if base < low {
-        return true;
-    }
-    if len <= base {
-        return true;
-    }
-    len - base <= high
+    entries >= 2 && stride.unsigned_abs() > 2147483648
 }
 
 // The greatest common divisor, by Euclid's steps.
@@ -61,51 +23,58 @@ fn gcd(a: usize, b: usize) -> usize
     let mut x = a;
     let mut y = b;
     while y != 0 {
-        let t = x % y;
-        x = y;
-        y = t;
+        (x, y) = (y, x % y);
     }
     x
 }
 
-// Are two different places the same element? Not where a row ends before the next one begins, or a column. Else, with g the strides'
-// greatest common divisor, |cs| / g rows lie where |rs| / g columns do.
-pub fn collides(rows: usize, columns: usize, o: Operand) -> bool
-    requires { Modest rows columns o }
-    ensures { Tells result (TwoMeet rows columns o) }
-{
-    if rows == 0 {
-        return false;
+impl Operand {
+    // Is either stride too large?
+    pub fn too_long(self, rows: usize, columns: usize) -> bool
+        ensures { Tells result (Long rows columns self) }
+    {
+        long_stride(rows, self.rs) || long_stride(columns, self.cs)
     }
-    if columns == 0 {
-        return false;
-    }
-    let a = magnitude(o.rs);
-    let b = magnitude(o.cs);
-    if rows < 2 {
-        if columns < 2 {
+
+    // Is some place (i,j), i below rows, j below columns, outside a slice of len elements? The lowest and the highest corner decide.
+    pub fn outside(self, rows: usize, columns: usize, len: usize) -> bool
+        requires { Modest rows columns self }
+        ensures { Tells result (SomeOutside rows columns self len) }
+    {
+        if rows == 0 || columns == 0 {
             return false;
         }
-        return b == 0;
+        let down = span_of(rows, self.rs);
+        let across = span_of(columns, self.cs);
+        let low = down.below + across.below;
+        let high = down.above + across.above;
+        self.base < low || len.saturating_sub(self.base) <= high
     }
-    if a == 0 {
-        return true;
+
+    // Are two different places the same element? Not where a row ends before the next one begins, or a column. Else, with g the strides'
+    // greatest common divisor, |cs| / g rows lie where |rs| / g columns do.
+    pub fn collides(self, rows: usize, columns: usize) -> bool
+        requires { Modest rows columns self }
+        ensures { Tells result (TwoMeet rows columns self) }
+    {
+        if rows == 0 || columns == 0 {
+            return false;
+        }
+        let a = self.rs.unsigned_abs();
+        let b = self.cs.unsigned_abs();
+        if rows < 2 {
+            return columns >= 2 && b == 0;
+        }
+        if columns < 2 {
+            return a == 0;
+        }
+        if a == 0 || b == 0 {
+            return true;
+        }
+        if reach(columns, b) < a || reach(rows, a) < b {
+            return false;
+        }
+        let g = gcd(a, b);
+        b / g < rows && a / g < columns
     }
-    if columns < 2 {
-        return false;
-    }
-    if b == 0 {
-        return true;
-    }
-    if reach(columns, b) < a {
-        return false;
-    }
-    if reach(rows, a) < b {
-        return false;
-    }
-    let g = gcd(a, b);
-    if b / g < rows {
-        return a / g < columns;
-    }
-    false
 }

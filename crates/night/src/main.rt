@@ -5,13 +5,13 @@
 
 ghost use Rattle.std.specs.Prelude.{◌≤◌};
 
-use call::answer::Answer;
-use dgemm::gemm::dgemm;
+use gemm::gemm::gemm;
 use element::kind::Kind;
-use layout::need::{PackLength, pack_length};
+use layout::need::pack_length;
 use layout::operand::Operand;
-use panel::file::{PanelAnswer, Shape};
+use panel::file::Shape;
 use panel::real64::read_f64;
+use refusal::Refusal;
 use show::{Hundredths, Refused};
 use std::fs::File;
 use std::io;
@@ -51,9 +51,9 @@ fn scored(
     beta: f64,
     scores: &mut Scores,
     base: usize,
-) -> Answer {
+) -> Result<(), Refusal> {
     let mut pack = [0.0f64; PACK];
-    dgemm(
+    gemm(
         INVERTERS,
         READINGS,
         SCORES,
@@ -78,17 +78,17 @@ fn show_scores(rt: &impl Print, scores: &Scores) -> io::Result<()> {
     Ok(())
 }
 
-fn show_answer(rt: &impl Print, r: Answer) -> io::Result<()> {
+fn show_answer(rt: &impl Print, r: Result<(), Refusal>) -> io::Result<()> {
     match r {
-        Answer::Done => println!(rt; "  done"),
-        Answer::Refused(x) => println!(rt; "  {}", Refused(x)),
+        Ok(()) => println!(rt; "  done"),
+        Err(x) => println!(rt; "  {}", Refused(x)),
     }
 }
 
 fn show_need(rt: &impl Print) -> io::Result<()> {
     match pack_length(Kind::F64, INVERTERS, READINGS, SCORES) {
-        PackLength::Refused(x) => println!(rt; "{}\n", Refused(x)),
-        PackLength::Elements(x) => println!(rt; "the pack buffer needs {x} elements\n"),
+        Err(x) => println!(rt; "{}\n", Refused(x)),
+        Ok(x) => println!(rt; "the pack buffer needs {x} elements\n"),
     }
 }
 
@@ -108,12 +108,12 @@ fn show_picks(rt: &impl Print, scores: &Scores) -> io::Result<()> {
 // Reads a file's bytes into numbers, and answers the shape of what these then hold: the file's, or the old one where nothing was stored.
 fn take(rt: &impl Print, bytes: &[u8], numbers: &mut [f64], old: Shape) -> io::Result<Shape> {
     match read_f64(bytes, numbers) {
-        PanelAnswer::Read(h) => {
+        Ok(h) => {
             let shape = h.shape;
             println!(rt; "{} rows, {} columns", shape.rows, shape.columns)?;
             Ok(shape)
         }
-        PanelAnswer::Refused(x) => {
+        Err(x) => {
             println!(rt; "{}\n  nothing was stored", Refused(x))?;
             Ok(old)
         }

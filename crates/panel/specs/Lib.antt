@@ -1,11 +1,7 @@
 pub mod File
 pub mod Reader
-pub mod Real32
-pub mod Real64
 pub mod Heads
 pub mod HeadLaws
 pub mod ReadLaws
-pub mod Real32Laws
-pub mod Real64Laws
 pub mod OneOutcome
 pub mod Examples

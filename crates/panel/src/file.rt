@@ -1,20 +1,24 @@
-// What a panel's file says before its elements, and what its reader is answered.
-use refusal::Refusal;
+// What a panel's file says before its elements.
+ghost use Rattle.std.specs.Prelude.{◌≡◌, ◌<◌, ◌^◌};
+ghost use Rattle.panel.specs.File.{elements_of};
 
-#[derive(Clone, Copy)]
+#[derive(Clone, Copy, Debug, PartialEq, Eq)]
 pub struct Shape {
     pub rows: u16,
     pub columns: u16,
 }
 
-#[derive(Clone, Copy)]
+impl Shape {
+    // How many elements a panel of this shape has.
+    pub fn elements(self) -> usize
+        ensures { (result ≡ elements_of self) × (result < 2 ^ 32) }
+    {
+        self.rows as usize * self.columns as usize
+    }
+}
+
+#[derive(Clone, Copy, Debug, PartialEq, Eq)]
 pub struct Header {
     pub version: u16,
     pub shape: Shape,
-}
-
-#[derive(Clone, Copy)]
-pub enum PanelAnswer {
-    Read(Header),
-    Refused(Refusal),
 }

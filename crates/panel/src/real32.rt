@@ -3,11 +3,10 @@ ghost use Rattle.std.specs.Prelude.{◌≡◌, ◌≤◌, ◌<◌, ◌^◌, leng
 ghost use Rattle.std.specs.Float.{binary32};
 ghost use Rattle.rules.specs.Lists.{tab, splice};
 ghost use Rattle.panel.specs.File.{element_in};
-ghost use Rattle.panel.specs.Reader.{ReadOutcome};
-ghost use Rattle.panel.specs.Real32.{ElementOutcome};
+ghost use Rattle.panel.specs.Reader.{ReadOutcome, ElementOutcome};
 
-use crate::file::{PanelAnswer, Shape};
-use crate::head::{HEAD, elements_of, judge};
+use crate::file::{Header, Shape};
+use crate::head::{HEAD, judge};
 use floats::floats32::float_of;
 use refusal::Refusal;
 use words::number_at;
@@ -22,26 +21,37 @@ fn fill(file: &[u8], n: usize, numbers: &mut [f32])
     requires { (n < 2 ^ 32) × (n ≤ length numbers.old) }
     ensures { numbers.new ≡ splice numbers.old 0 (tab n (element_in binary32 file.now)) }
 {
-    let mut i = 0;
-    while i < n {
+    for i in 0..n {
         numbers[i] = float_of(number_at(file, WIDTH, HEAD + WIDTH * i));
-        i += 1;
     }
 }
 
 // Reads a file's panel into the first elements of a destination.
-pub fn read_f32(file: &[u8], numbers: &mut [f32]) -> PanelAnswer
+pub fn read_f32(file: &[u8], numbers: &mut [f32]) -> Result<Header, Refusal>
     ensures { ReadOutcome binary32 file.now numbers.old numbers.new result }
 {
-    let answer = judge(file, KIND, numbers.len());
-    match answer {
-        PanelAnswer::Refused(x) => PanelAnswer::Refused(x),
-        PanelAnswer::Read(h) => {
-            let n = elements_of(h.shape);
-            fill(file, n, numbers);
-            PanelAnswer::Read(h)
-        }
+    let head = judge(file, KIND, numbers.len())?;
+    fill(file, head.shape.elements(), numbers);
+    Ok(head)
+}
+
+// The work of `element`, on the slice and the numbers.
+pub fn element_at(
+    numbers: &[f32],
+    rows: u16,
+    columns: u16,
+    row: usize,
+    column: usize,
+) -> Result<f32, Refusal>
+    ensures { ElementOutcome numbers.now (record { rows = rows; columns = columns }) row column result }
+{
+    let m = rows as usize;
+    let n = columns as usize;
+    if row >= m || column >= n {
+        return Err(Refusal::OutsidePanel);
     }
+    let at = row * n + column;
+    numbers.get(at).copied().ok_or(Refusal::OutsidePanel)
 }
 
 // The borrowed numbers together with their shape, row by row.
@@ -52,51 +62,22 @@ pub struct Panel<'a> {
     pub columns: u16,
 }
 
-#[derive(Clone, Copy)]
-pub enum ElementAnswer {
-    Element(f32),
-    Refused(Refusal),
-}
+impl<'a> Panel<'a> {
+    // The shape alone.
+    pub fn shape(self) -> Shape
+        ensures { (result.rows ≡ self.entry.rows) × (result.columns ≡ self.entry.columns) }
+    {
+        Shape {
+            rows: self.rows,
+            columns: self.columns,
+        }
+    }
 
-// The work of `element`, on the slice and the numbers.
-pub fn element_at(
-    numbers: &[f32],
-    rows: u16,
-    columns: u16,
-    row: usize,
-    column: usize,
-) -> ElementAnswer
-    ensures { ElementOutcome numbers.now (record { rows = rows; columns = columns }) row column result }
-{
-    let m = rows as usize;
-    let n = columns as usize;
-    if row >= m {
-        return ElementAnswer::Refused(Refusal::OutsidePanel);
+    // The element at a place.
+    pub fn element(self, row: usize, column: usize) -> Result<f32, Refusal>
+        ensures { ElementOutcome self.entry.numbers.now
+            (record { rows = self.entry.rows; columns = self.entry.columns }) row column result }
+    {
+        element_at(self.numbers, self.rows, self.columns, row, column)
     }
-    if column >= n {
-        return ElementAnswer::Refused(Refusal::OutsidePanel);
-    }
-    let at = row * n + column;
-    if at >= numbers.len() {
-        return ElementAnswer::Refused(Refusal::OutsidePanel);
-    }
-    ElementAnswer::Element(numbers[at])
-}
-
-// The shape alone.
-pub fn shape<'a>(p: Panel<'a>) -> Shape
-    ensures { (result.rows ≡ p.entry.rows) × (result.columns ≡ p.entry.columns) }
-{
-    Shape {
-        rows: p.rows,
-        columns: p.columns,
-    }
-}
-
-// The element at a place.
-pub fn element<'a>(p: Panel<'a>, row: usize, column: usize) -> ElementAnswer
-    ensures { ElementOutcome p.entry.numbers.now (record { rows = p.entry.rows; columns = p.entry.columns })
-        row column result }
-{
-    element_at(p.numbers, p.rows, p.columns, row, column)
 }

@@ -1,5 +1,5 @@
 -- The numbers of the refusals, by documents 01 and 02. Definitions only.
-use Rattle.std.specs.Prelude.{ℕ}
+use Rattle.std.specs.Prelude.{ℕ, Result, Ok, Err}
 use Rattle.refusal.specs.declared.Refusal.{Refusal}
 use Rattle.refusal.specs.declared.Refusal.TheVariants.{
   TooLarge,
@@ -33,3 +33,8 @@ number_of WrongKind = 24  -- "kind not the one asked for"
 number_of WrongLength = 25  -- "total length not exactly what rows and columns say"
 number_of NoRoom = 26  -- "destination too short"
 number_of OutsidePanel = 30  -- a place "outside the shape or beyond the numbers"
+
+-- an answer's number; 0 is done
+abbrev pub answer_number : Result Unit Refusal → ℕ
+answer_number (Ok u) = 0
+answer_number (Err x) = number_of x

@@ -2,9 +2,12 @@
 #![tactic(auto)]
 
 ghost use Rattle.std.specs.Prelude.{◌≡◌};
-ghost use Rattle.refusal.specs.Numbers.{number_of};
+ghost use Rattle.refusal.specs.Numbers.{number_of, answer_number};
 
-#[derive(Clone, Copy)]
+use std::error::Error;
+use std::fmt;
+
+#[derive(Clone, Copy, Debug, PartialEq, Eq)]
 pub enum Refusal {
     TooLarge,
     TooFar,
@@ -42,5 +45,41 @@ impl Refusal {
             Refusal::NoRoom => 26,
             Refusal::OutsidePanel => 30,
         }
+    }
+}
+
+// What a refusal means, in the words of the C header.
+impl fmt::Display for Refusal {
+    fn fmt<W: fmt::Write>(&self, f: &mut fmt::Formatter<W>) -> fmt::Result {
+        f.write_str(match self {
+            Refusal::TooLarge => "m, k or n is above 65,536",
+            Refusal::TooFar => {
+                "a stride of A, B or C along an axis of two or more entries is above 2,147,483,648 in magnitude"
+            }
+            Refusal::OutsideC => "a place of C is outside C's slice",
+            Refusal::CollidesC => "two different places of C are the same element",
+            Refusal::OutsideA => "a place of A is outside A's slice",
+            Refusal::OutsideB => "a place of B is outside B's slice",
+            Refusal::PackShort => "the pack buffer is shorter than the need",
+            Refusal::FileShort => "the file has fewer than ten bytes",
+            Refusal::WrongMark => "the file does not begin with the mark IVP",
+            Refusal::UnknownVersion => "the file's version is not known",
+            Refusal::WrongKind => "the file's kind is not the one asked for",
+            Refusal::WrongLength => "the file's length is not what its rows and columns say",
+            Refusal::NoRoom => "the destination is shorter than the panel",
+            Refusal::OutsidePanel => "the place is outside the panel's shape or beyond its numbers",
+        })
+    }
+}
+
+impl Error for Refusal {}
+
+// A call's answer as a number: 0 for done, or the refusal's.
+pub fn answer_number(answer: Result<(), Refusal>) -> u64
+    ensures { result ≡ answer_number answer }
+{
+    match answer {
+        Ok(()) => 0,
+        Err(x) => x.number(),
     }
 }

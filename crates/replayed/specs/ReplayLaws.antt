@@ -3,16 +3,17 @@ use Rattle.std.specs.Prelude.{ℕ, ◌<◌, ◌≤◌, ◌≡◌, refl, Bool, tr
 use Rattle.std.proofs.Common.{sym, ap, ◌∙◌, subst, arith, lt-ltb, le-ltb, length-take-le}
 use Rattle.std.specs.Float.{Format, binary32, binary64}
 use Rattle.std.proofs.lemmas.List.{length-replicate}
+use Rattle.refusal.specs.declared.Refusal.{Refusal}
+use Rattle.refusal.specs.Numbers.{answer_number}
 use Rattle.element.specs.Kinds.{arith_of}
 use Rattle.element.specs.declared.kind.Kind.{Kind}
 use Rattle.element.specs.declared.kind.Kind.TheVariants.{F32, F64, C32, C64}
 use Rattle.floats.specs.Floats.{floats_of, FirstDifference}
-use Rattle.call.specs.declared.answer.Answer.{Answer}
 use Rattle.call.specs.declared.judge.Lengths.{Lengths}
 use Rattle.call.specs.declared.judge.Matrices.{Matrices}
 use Rattle.call.specs.Call.{Call}
 use Rattle.call.specs.Verdict.{lengths}
-use Rattle.call.specs.Outcome.{answer_number, Outcome}
+use Rattle.call.specs.Outcome.{Outcome}
 use Rattle.sample.specs.declared.calls.Difference.{Difference}
 use Rattle.sample.specs.Calls.{matrices_of}
 use Rattle.replayed.specs.Replayed.{format_of, kind32, kind64, scalar_at, recorded, words_a, words_b, words_c, Ran, Compared, Replayed}
@@ -40,8 +41,8 @@ pub kind_from : (x y : Kind) (n : ℕ) → 2 ≤ n → y ≡ cond (ltb n 2) x y
 kind_from x y n h = ap (λ (b : Bool). cond b x y) (sym (le-ltb n 2 h))
 
 -- the entry point of k was handed the call that the words hold, which is of this kind
-pub ran_by : {k kind : Kind} → k ≡ kind → (w : List ℕ) {q : Matrices} {alpha beta : (arith_of k).E} {A B C D P Q : List Float} {r : Answer}
-    → q ≡ matrices_of w → alpha ≡ scalar_at k w 17 → beta ≡ scalar_at k w 19
+pub ran_by : {k kind : Kind} → k ≡ kind → (w : List ℕ) {q : Matrices} {alpha beta : (arith_of k).E} {A B C D P Q : List Float}
+    {r : Result Unit Refusal} → q ≡ matrices_of w → alpha ≡ scalar_at k w 17 → beta ≡ scalar_at k w 19
     → Outcome {kind = k} (record { over = q; alpha = alpha; beta = beta }) A B C D P Q r → Ran kind w A B C D P Q r
 ran_by {k} e w {A = A} {B} {C} {D} {P} {Q} {r} f g h o =
     subst (λ (z : Kind). Ran z w A B C D P Q r) e
@@ -78,7 +79,7 @@ module _ {kind : Kind} {f : Format} (k : format_of kind ≡ f) (w : List ℕ) (A
     (a : (A' ≡ floats_of f (length A) wa) × (wb ≡ drop (length A) wa))
     (b : (B' ≡ floats_of f (length B) wb) × (wc ≡ drop (length B) wb))
     (c : (C' ≡ floats_of f (length C) wc) × (rest ≡ drop (length C) wc)) where
-  pub replayed_by : {r : Answer} {number : ℕ} {o : Result Unit Difference} → Ran kind w A' B' C' D P Q r → number ≡ answer_number r
+  pub replayed_by : {r : Result Unit Refusal} {number : ℕ} {o : Result Unit Difference} → Ran kind w A' B' C' D P Q r → number ≡ answer_number r
       → Compared f rest number D o → Replayed kind w (length P) (lengths A B C) o
   replayed_by {r} {number} {o} run is seen =
       let n = lengths A B C in

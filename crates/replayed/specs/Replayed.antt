@@ -1,14 +1,15 @@
 -- What a recorded call comes to when it is run again. Definitions only.
 use Rattle.std.specs.Prelude.{ℕ, ◌%◌, ◌<◌, ◌≡◌, cond, List, ltb, eqb, Float, length, get_or, drop, Result, Ok, Err}
 use Rattle.std.specs.Float.{nan, Format, binary32, binary64}
+use Rattle.refusal.specs.declared.Refusal.{Refusal}
+use Rattle.refusal.specs.Numbers.{answer_number}
 use Rattle.element.specs.Kinds.{arith_of}
 use Rattle.element.specs.declared.kind.Kind.{Kind}
 use Rattle.element.specs.declared.kind.Kind.TheVariants.{F32, F64, C32, C64}
 use Rattle.floats.specs.Floats.{float_of, floats_of, complex_of, FirstDifference}
-use Rattle.call.specs.declared.answer.Answer.{Answer}
 use Rattle.call.specs.declared.judge.Lengths.{Lengths}
 use Rattle.call.specs.Call.{Call}
-use Rattle.call.specs.Outcome.{answer_number, Outcome}
+use Rattle.call.specs.Outcome.{Outcome}
 use Rattle.sample.specs.declared.calls.Difference.{Difference}
 use Rattle.sample.specs.Calls.{matrices_of, length_at}
 
@@ -60,7 +61,7 @@ abbrev pub recorded : Lengths → List ℕ → List ℕ
 recorded n w = drop n.c (words_c n w)
 
 -- The call that words hold was run over A, B and C, whose slice is D afterwards, with a pack buffer that was P and is Q.
-abbrev pub Ran : Kind → List ℕ → (A B C D P Q : List Float) → Answer → Type 0
+abbrev pub Ran : Kind → List ℕ → (A B C D P Q : List Float) → Result Unit Refusal → Type 0
 Ran kind w = Outcome (recorded_call kind w)
 
 -- Against the words that were recorded, the number and C's slice D agree, the numbers differ, or a place is the first whose float differs.
@@ -76,7 +77,7 @@ pub record Replayed (kind : Kind) (w : List ℕ) (pack : ℕ) (n : Lengths) (o :
   pub D : List Float
   pub P : List Float
   pub Q : List Float
-  pub answer : Answer
+  pub answer : Result Unit Refusal
   pub long : length P ≡ pack
   pub ran :
       Ran kind w (floats_of (format_of kind) n.a (words_a w)) (floats_of (format_of kind) n.b (words_b n w))

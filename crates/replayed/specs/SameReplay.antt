@@ -2,20 +2,21 @@
 use Rattle.std.specs.Prelude.{ℕ, ◌≡◌, refl, List, Float, length, Result, Ok, Err}
 use Rattle.std.proofs.Common.{sym, ap, ◌∙◌, subst}
 use Rattle.std.specs.Float.{Format}
+use Rattle.refusal.specs.declared.Refusal.{Refusal}
+use Rattle.refusal.specs.Numbers.{answer_number}
 use Rattle.element.specs.declared.kind.Kind.{Kind}
 use Rattle.floats.specs.SameDifference.{first_difference_same}
-use Rattle.call.specs.declared.answer.Answer.{Answer}
 use Rattle.call.specs.declared.judge.Lengths.{Lengths}
 use Rattle.call.specs.Call.{Call, Does}
 use Rattle.call.specs.Verdict.{lengths, Verdict}
-use Rattle.call.specs.Outcome.{answer_number, Leaves, Outcome}
+use Rattle.call.specs.Outcome.{Leaves, Outcome}
 use Rattle.call.specs.OneOutcome.{one_left, verdict_one}
 use Rattle.call.proofs.PieceLaws.{does_same}
 use Rattle.sample.specs.declared.calls.Difference.{Difference}
 use Rattle.replayed.specs.Replayed.{format_of, recorded, Compared, Replayed}
 
 -- the number and the end of C's slice do not depend on what the pack buffer held
-left_same : {kind : Kind} (q : Call kind) (A B C D D' P P' Q Q' : List Float) (r r' : Answer) → length P ≡ length P'
+left_same : {kind : Kind} (q : Call kind) (A B C D D' P P' Q Q' : List Float) (r r' : Result Unit Refusal) → length P ≡ length P'
     → Outcome q A B C D P Q r → Outcome q A B C D' P' Q' r' → (answer_number r ≡ answer_number r') × (D ≡ D')
 left_same q A B C D D' P P' Q Q' r r' long o o' =
     one_left (Verdict (length P) q (lengths A B C)) (Does q A B) (verdict_one (length P) q (lengths A B C)) (does_same q A B) C D D'

@@ -4,9 +4,9 @@ ghost use Rattle.std.specs.Prelude.{length, get_or};
 ghost use Rattle.call.specs.Verdict.{lengths};
 ghost use Rattle.replayed.specs.Replayed.{kind32, lengths_of, pack_of, Ran, Compared, Replayed};
 
-use call::answer::Answer;
 use cgemm::gemm::cgemm;
 use floats::floats32::{complex_of, fill, first_difference};
+use refusal::{Refusal, answer_number};
 use sample::calls::{
     A_LENGTH, ALPHA, B_LENGTH, BETA, C_LENGTH, Difference, FLOATS, KIND, PACK_LENGTH, length_at,
     matrices_of,
@@ -15,7 +15,7 @@ use sgemm::gemm::sgemm;
 use words::{after, word_at};
 
 // Our answer to a call.
-fn answer(call: &[u64], a: &[f32], b: &[f32], c: &mut [f32], pack: &mut [f32]) -> Answer
+fn answer(call: &[u64], a: &[f32], b: &[f32], c: &mut [f32], pack: &mut [f32]) -> Result<(), Refusal>
     ensures { Ran (kind32 (get_or call.now 0 0)) call.now
         a.now b.now c.old c.new pack.old pack.new result }
 {
@@ -60,7 +60,7 @@ fn replay_in(
     let c_words = fill(b_words, b);
     let recorded = fill(c_words, c);
     let r = answer(call, a, b, c, pack);
-    compared(r.number(), c, recorded)
+    compared(answer_number(r), c, recorded)
 }
 
 // What a call comes to.

@@ -5,9 +5,9 @@ ghost use Rattle.std.specs.Prelude.{length, get_or};
 ghost use Rattle.call.specs.Verdict.{lengths};
 ghost use Rattle.replayed.specs.Replayed.{kind64, lengths_of, pack_of, Ran, Compared, Replayed};
 
-use call::answer::Answer;
 use dgemm::gemm::dgemm;
 use floats::floats64::{complex_of, fill, first_difference};
+use refusal::{Refusal, answer_number};
 use sample::calls::{
     A_LENGTH, ALPHA, B_LENGTH, BETA, C_LENGTH, Difference, FLOATS, KIND, PACK_LENGTH, length_at,
     matrices_of,
@@ -16,7 +16,7 @@ use words::{after, word_at};
 use zgemm::gemm::zgemm;
 
 // Our answer to a call.
-fn answer(call: &[u64], a: &[f64], b: &[f64], c: &mut [f64], pack: &mut [f64]) -> Answer
+fn answer(call: &[u64], a: &[f64], b: &[f64], c: &mut [f64], pack: &mut [f64]) -> Result<(), Refusal>
     ensures { Ran (kind64 (get_or call.now 0 0)) call.now
         a.now b.now c.old c.new pack.old pack.new result }
 {
@@ -61,7 +61,7 @@ fn replay_in(
     let c_words = fill(b_words, b);
     let recorded = fill(c_words, c);
     let r = answer(call, a, b, c, pack);
-    compared(r.number(), c, recorded)
+    compared(answer_number(r), c, recorded)
 }
 
 // What a call comes to.

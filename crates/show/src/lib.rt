@@ -78,34 +78,12 @@ impl fmt::Display for Hundredths {
     }
 }
 
-// What a refusal means, in the words of the C header.
-fn meaning(x: Refusal) -> &'static str {
-    match x {
-        Refusal::TooLarge => "m, k or n is above 65,536",
-        Refusal::TooFar => {
-            "a stride of A, B or C along an axis of two or more entries is above 2,147,483,648 in magnitude"
-        }
-        Refusal::OutsideC => "a place of C is outside C's slice",
-        Refusal::CollidesC => "two different places of C are the same element",
-        Refusal::OutsideA => "a place of A is outside A's slice",
-        Refusal::OutsideB => "a place of B is outside B's slice",
-        Refusal::PackShort => "the pack buffer is shorter than the need",
-        Refusal::FileShort => "the file has fewer than ten bytes",
-        Refusal::WrongMark => "the file does not begin with the mark IVP",
-        Refusal::UnknownVersion => "the file's version is not known",
-        Refusal::WrongKind => "the file's kind is not the one asked for",
-        Refusal::WrongLength => "the file's length is not what its rows and columns say",
-        Refusal::NoRoom => "the destination is shorter than the panel",
-        Refusal::OutsidePanel => "the place is outside the panel's shape or beyond its numbers",
-    }
-}
-
 // A refusal by its number, and what it means.
 #[derive(Clone, Copy)]
 pub struct Refused(pub Refusal);
 
 impl fmt::Display for Refused {
     fn fmt<W: fmt::Write>(&self, f: &mut fmt::Formatter<W>) -> fmt::Result {
-        write!(f, "refused with {}: {}", self.0.number(), meaning(self.0))
+        write!(f, "refused with {}: {}", self.0.number(), self.0)
     }
 }

@@ -12,4 +12,4 @@ overflow_sub-n c = omega (arith, chunk_start c.args.chunk c.args.n c.args.i c.re
 
 pub returns : goal.returns
 unfolding chunk_length
-returns c = c.least.ensures
+returns c = c.min.ensures

@@ -10,4 +10,4 @@ returns c =
     let s = c.args in
     replayed_by (format64 (get_or s.call.now 0 0)) s.call.now s.a.now s.b.now s.c.now
     c.after.ensures c.fill-b_words.ensures c.fill-c_words.ensures c.fill-recorded.ensures
-    c.answer-r.ensures c.number.ensures c.compared.ensures
+    c.answer-r.ensures c.answer_number.ensures c.compared.ensures
