@@ -9,7 +9,7 @@ ghost use Rattle.layout.specs.Operands.{Writable};
 
 use element::elements::Element;
 use element::fate::Fate;
-use layout::operand::{Operand, place};
+use layout::operand::Operand;
 
 // The element (i,j) of C: beta times it, or +0 where beta is zero.
 fn scale_one<T: Element>(
@@ -26,7 +26,7 @@ fn scale_one<T: Element>(
     ensures { Updated (view_of T.kind) (index_of lc) (Region i 1 j 1)
         (λ i j. scaled (arith_of T.kind) (fate_of T.held.is fate)) (T.Real.floats c.old) (T.Real.floats c.new) }
 {
-    let at = place(lc, i, j);
+    let at = lc.place(i, j);
     let old = T::read(c, at);
     fate.scaled(old).write(c, at);
 }

@@ -10,8 +10,8 @@ use crate::packed::gemm_packed;
 use element::elements::Element;
 use element::fate::Fate;
 use kernel::kernels::Kernel;
-use layout::operand::{Operand, based_at, transpose};
-use layout::util::{chunk_count, chunk_len, least, round_up_to};
+use layout::operand::Operand;
+use layout::util::{chunk_count, chunk_len};
 use packing::packs::Packs;
 use packing::panels;
 
@@ -37,8 +37,8 @@ fn row_loop<T: Kernel + Packs>(
     let chunk = T::ROW_CHUNK;
     for i in 0..chunk_count(m, chunk) {
         let mc = chunk_len(m, chunk, i);
-        let pa = based_at(la, i * chunk, 0);
-        let pc = based_at(lc, i * chunk, 0);
+        let pa = la.based_at(i * chunk, 0);
+        let pc = lc.based_at(i * chunk, 0);
         panels::pack::<T>(pack, T::TILE_ROWS, kc, mc, a, pa);
         let packed = &pack[..];
         gemm_packed(
@@ -92,8 +92,8 @@ fn depth_loop<T: Kernel + Packs>(
 {
     for p in 0..chunk_count(k, chunk) {
         let kc = chunk_len(k, chunk, p);
-        let pa = based_at(la, 0, p * chunk);
-        let pb = transpose(based_at(lb, p * chunk, 0));
+        let pa = la.based_at(0, p * chunk);
+        let pb = lb.based_at(p * chunk, 0).transpose();
         panels::pack::<T>(&mut pack[asize..], T::TILE_COLUMNS, kc, n, b, pb);
         let by = multiplier(beta, p);
         let fate = Fate::from_beta(by);
@@ -125,12 +125,12 @@ pub fn gemm_loop<T: Kernel + Packs>(
         (T.Real.floats c.old) (T.Real.floats c.new) (T.Real.floats pack.old) (T.Real.floats pack.new) }
 {
     let columns = T::COLUMN_CHUNK;
-    let rows = round_up_to(least(m, T::ROW_CHUNK), T::TILE_ROWS);
-    let asize = least(k, chunk) * (rows * T::REALS);
+    let rows = m.min(T::ROW_CHUNK).next_multiple_of(T::TILE_ROWS);
+    let asize = k.min(chunk) * (rows * T::REALS);
     for j in 0..chunk_count(n, columns) {
         let nc = chunk_len(n, columns, j);
-        let pb = based_at(lb, 0, j * columns);
-        let pc = based_at(lc, 0, j * columns);
+        let pb = lb.based_at(0, j * columns);
+        let pc = lc.based_at(0, j * columns);
         depth_loop(
             chunk, m, k, nc, alpha, a, la, b, pb, beta, c, pc, pack, asize,
         );

@@ -11,7 +11,7 @@ ghost use Rattle.loops.specs.Work.{settled, panels};
 use element::elements::Element;
 use element::fate::Fate;
 use kernel::kernels::Kernel;
-use layout::operand::{Operand, based_at};
+use layout::operand::Operand;
 use layout::util::{chunk_count, chunk_len};
 
 // LOOP 1: one column of tiles of C, m rows in chunks of the tile's rows.
@@ -40,7 +40,7 @@ fn tile_column<T: Kernel>(
     let panel = kc * (side * T::REALS);
     for i in 0..chunk_count(m, side) {
         let rows = chunk_len(m, side, i);
-        let here = based_at(lc, i * side, 0);
+        let here = lc.based_at(i * side, 0);
         T::masked_kernel(kc, alpha, &a[i * panel..], b, fate, c, here, rows, cols);
     }
 }
@@ -70,7 +70,7 @@ pub fn gemm_packed<T: Kernel>(
     let panel = kc * (side * T::REALS);
     for j in 0..chunk_count(n, side) {
         let cols = chunk_len(n, side, j);
-        let here = based_at(lc, 0, j * side);
+        let here = lc.based_at(0, j * side);
         tile_column(kc, m, cols, alpha, a, &b[j * panel..], fate, c, here);
     }
 }

@@ -17,7 +17,7 @@ use crate::masked::c_to_masked_ab_beta_c;
 use element::complex::Complex32;
 use element::elements::Element;
 use element::fate::Fate;
-use layout::operand::{Operand, transpose};
+use layout::operand::Operand;
 
 const MR: usize = <Complex32 as Element>::TILE_ROWS;
 
@@ -45,6 +45,6 @@ impl Kernel for Complex32 {
             c.old c.new }
     {
         let ab = kernel::<Complex32, MR, NR>(kc, alpha, a, b, [0.0; MR], rows);
-        c_to_masked_ab_beta_c(ab, fate, c, transpose(lc), cols, rows);
+        c_to_masked_ab_beta_c(ab, fate, c, lc.transpose(), cols, rows);
     }
 }

@@ -18,7 +18,7 @@ use crate::masked::c_to_masked_ab_beta_c;
 use element::complex::Complex64;
 use element::elements::Element;
 use element::fate::Fate;
-use layout::operand::{Operand, transpose};
+use layout::operand::Operand;
 
 const MR: usize = <Complex64 as Element>::TILE_ROWS;
 
@@ -46,6 +46,6 @@ impl Kernel for Complex64 {
             c.old c.new }
     {
         let ab = kernel::<Complex64, MR, NR>(kc, alpha, a, b, [0.0; MR], rows);
-        c_to_masked_ab_beta_c(ab, fate, c, transpose(lc), cols, rows);
+        c_to_masked_ab_beta_c(ab, fate, c, lc.transpose(), cols, rows);
     }
 }

@@ -10,7 +10,7 @@ ghost use Rattle.loops.specs.Tiles.{at, cell};
 
 use element::elements::Element;
 use element::fate::Fate;
-use layout::operand::{Operand, place};
+use layout::operand::Operand;
 
 // The element (i,j) of rows by cols of C: its part over old C.
 fn put_one<T: Element>(
@@ -29,7 +29,7 @@ fn put_one<T: Element>(
         (λ i j. put (arith_of T.kind) (fate_of T.held.is fate) (T.held.is part))
         (T.Real.floats c.old) (T.Real.floats c.new) }
 {
-    let at = place(lc, i, j);
+    let at = lc.place(i, j);
     let old = T::read(c, at);
     fate.put(part, old).write(c, at);
 }

@@ -7,7 +7,7 @@ ghost use Rattle.loops.specs.Panels.{padded};
 ghost use Rattle.loops.specs.Tiles.{up_to, line};
 
 use element::elements::Element;
-use layout::operand::{Operand, place};
+use layout::operand::Operand;
 
 // Lane i is f(i) below w, and +0 from w on.
 fn lanes_of<T: Element, F: Fn(usize) -> T, const N: usize>(w: usize, f: F) -> [T; N]
@@ -29,7 +29,7 @@ fn element_in<T: Element>(a: &[T::Real], la: Operand, i: usize, p: usize) -> T
     requires inside { index_of la i p < (view_of T.kind).count (length (T.Real.floats a.now)) }
     ensures { T.held.is result ≡ element_at T.kind (T.Real.floats a.now) la i p }
 {
-    T::read(a, place(la, i, p))
+    T::read(a, la.place(i, p))
 }
 
 // The element at row i and depth p of a matrix of m rows by kc depth steps, and +0 from row m on.
@@ -106,7 +106,7 @@ pub fn lanes<T: Element, const N: usize>(
 {
     if first + w <= m {
         if la.rs == 1 {
-            return contiguous(w, a, place(la, first, p));
+            return contiguous(w, a, la.place(first, p));
         }
         return general(w, a, la, m, kc, first, p);
     }

@@ -3,7 +3,7 @@ use Rattle.std.proofs.Common.{rules, ℕ, min, ◌*◌, ◌≡◌, ◌<◌, arit
 use Rattle.rules.specs.Element.{chunks}
 use Rattle.element.specs.Kinds.{tiling_of, per_element}
 use Rattle.element.specs.FloatLaws.{length_floats}
-use Rattle.layout.specs.{Need.round_up, Operands.Reachable}
+use Rattle.layout.specs.{Need.round_up, NeedLaws.kind_sides, NeedLaws.multiple_up, Operands.Reachable}
 use Rattle.loops.specs.Work.{front_room}
 use Rattle.loops.specs.ConstantLaws.{chunk_some, rows_few}
 use Rattle.loops.specs.ColumnLoop.{front_room_lem, columns_done, column_asks, column_turn}
@@ -16,17 +16,24 @@ use Rattle.gemm_loops.proofs.outer.gemm_loop.Goals.{After-REALS, In-loop-j}
 columns : (g : Over) (c : After-REALS g) → c.COLUMN_CHUNK-columns.result ≡ (tiling_of g.T.Element.kind).nc
 columns g c = c.COLUMN_CHUNK-columns.ensures ∙ sym g.met.T.Element.constants.columns
 
-reals : (g : Over) (c : After-REALS g) → c.round_up_to-rows.result * c.REALS.result
-    ≡ round_up (min c.args.m (tiling_of g.T.Element.kind).mc) (tiling_of g.T.Element.kind).mr * per_element g.T.Element.kind
-reals g c =
+rows : (g : Over) (c : After-REALS g) → c.next_multiple_of-rows.result
+    ≡ round_up (min c.args.m (tiling_of g.T.Element.kind).mc) (tiling_of g.T.Element.kind).mr
+rows g c =
     let k = g.met.T.Element.constants in
-    let rows : c.round_up_to-rows.result ≡ round_up (min c.args.m (tiling_of g.T.Element.kind).mc) (tiling_of g.T.Element.kind).mr =
-    rw (c.least.ensures, c.ROW_CHUNK.ensures ∙ sym k.rows, c.TILE_ROWS.ensures ∙ sym k.sides.0) at c.round_up_to-rows.ensures in
-    λ i. rows i * (c.REALS.ensures ∙ sym k.reals) i
+    let e = c.next_multiple_of-rows.ensures in
+    let side : c.TILE_ROWS.result ≡ (tiling_of g.T.Element.kind).mr = c.TILE_ROWS.ensures ∙ sym k.sides.0 in
+    let some : 0 < c.TILE_ROWS.result = omega (arith, side, (kind_sides g.T.Element.kind).0) in
+    let up : c.next_multiple_of-rows.result ≡ round_up c.min.result c.TILE_ROWS.result =
+        multiple_up _ c.TILE_ROWS.result _ some e.lower_bound e.upper_bound e.multiple in
+    rw (c.min.ensures, c.ROW_CHUNK.ensures ∙ sym k.rows, side) at up
+
+reals : (g : Over) (c : After-REALS g) → c.next_multiple_of-rows.result * c.REALS.result
+    ≡ round_up (min c.args.m (tiling_of g.T.Element.kind).mc) (tiling_of g.T.Element.kind).mr * per_element g.T.Element.kind
+reals g c = λ i. rows g c i * (c.REALS.ensures ∙ sym g.met.T.Element.constants.reals) i
 
 asize_is : (g : Over) (c : After-REALS g) → let a = c.args in
-    c.least-2.result * (c.round_up_to-rows.result * c.REALS.result) ≡ front_room g.T.Element.kind a.chunk a.m a.k
-asize_is g c = λ i. c.least-2.ensures i * reals g c i
+    c.min-2.result * (c.next_multiple_of-rows.result * c.REALS.result) ≡ front_room g.T.Element.kind a.chunk a.m a.k
+asize_is g c = λ i. c.min-2.ensures i * reals g c i
 
 -- chunk j is one of them, and begins in B and in C
 turn : (g : Over) (c : In-loop-j g) → c.loop-j.j < chunks (tiling_of g.T.Element.kind).nc c.args.n
