@@ -3,28 +3,49 @@ use crate::{reals32, reals64};
 use std::io;
 
 pub fn six_to_eight(rt: &impl Print) -> io::Result<()> {
-    let nan: f32 = 0.0 / 0.0;
     let ones = [1.0f32; 258];
-    reals32::one(
-        rt,
-        b"P6",
-        3,
-        1.0,
-        &[16777216.0f32, 1.0, 1.0],
-        &ones,
-        0.0,
-        nan,
-    )?;
     let mut a = [0.0f32; 258];
     a[0] = 16777216.0;
     a[256] = 1.0;
     a[257] = 1.0;
-    reals32::one(rt, b"P7", 258, 1.0, &a, &ones, 0.0, nan)?;
+    let seven = reals32::Example {
+        name: "P7",
+        k: 258,
+        alpha: 1.0,
+        a: &a,
+        b: &ones,
+        beta: 0.0,
+        old: f32::NAN,
+    };
+    let six = reals32::Example {
+        name: "P6",
+        k: 3,
+        a: &[16777216.0f32, 1.0, 1.0],
+        ..seven
+    };
+    six.run(rt)?;
+    seven.run(rt)?;
+    let mut a = a;
     a[255] = 1.0;
-    reals32::one(rt, b"P8", 257, 1.0, &a, &ones, 0.0, nan)
+    let eight = reals32::Example {
+        name: "P8",
+        k: 257,
+        a: &a,
+        ..seven
+    };
+    eight.run(rt)
 }
 
 pub fn nine(rt: &impl Print) -> io::Result<()> {
     let ones = [1.0f64; 257];
-    reals64::one(rt, b"P9", 257, 1.0, &ones, &ones, 2.0, 3.0)
+    let nine = reals64::Example {
+        name: "P9",
+        k: 257,
+        alpha: 1.0,
+        a: &ones,
+        b: &ones,
+        beta: 2.0,
+        old: 3.0,
+    };
+    nine.run(rt)
 }

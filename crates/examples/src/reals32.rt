@@ -1,64 +1,71 @@
 // What both real kinds share, in f32: P1 to P5, P10, and three elements that lie downwards.
-use crate::layouts::answered;
 use layout::operand::Operand;
 use sgemm::gemm::sgemm;
+use show::Bits;
 use std::io;
 
+const UNIT: Operand = Operand {
+    base: 0,
+    rs: 1,
+    cs: 1,
+};
+
 // One element: k depth steps of a and b over old.
-pub fn one(
-    rt: &impl Print,
-    name: &[u8],
-    k: usize,
-    alpha: f32,
-    a: &[f32],
-    b: &[f32],
-    beta: f32,
-    old: f32,
-) -> io::Result<()> {
-    let mut c = [old];
-    let mut pack: [f32; 3072] = [0.0; 3072];
-    let o = Operand {
-        base: 0,
-        rs: 1,
-        cs: 1,
-    };
-    let r = sgemm(1, k, 1, alpha, a, o, b, o, beta, &mut c, o, &mut pack);
-    show::text(rt, b"sgemm ")?;
-    show::text(rt, name)?;
-    show::text(rt, b" ")?;
-    show::whole(rt, r.number())?;
-    show::text(rt, b" ")?;
-    show::bits32(rt, c[0])?;
-    show::text(rt, b"\n")
+pub struct Example<'a> {
+    pub name: &'a str,
+    pub k: usize,
+    pub alpha: f32,
+    pub a: &'a [f32],
+    pub b: &'a [f32],
+    pub beta: f32,
+    pub old: f32,
 }
 
-// The same where A and B are one number each. Apart, because a function takes the longer to check the more slices it makes.
-fn of_numbers(
-    rt: &impl Print,
-    name: &[u8],
-    k: usize,
-    alpha: f32,
-    a: f32,
-    b: f32,
-    beta: f32,
-    old: f32,
-) -> io::Result<()> {
-    one(rt, name, k, alpha, &[a], &[b], beta, old)
+impl<'a> Example<'a> {
+    pub fn run(&self, rt: &impl Print) -> io::Result<()> {
+        let mut c = [self.old];
+        let mut pack: [f32; 3072] = [0.0; 3072];
+        let r = sgemm(
+            1, self.k, 1, self.alpha, self.a, UNIT, self.b, UNIT, self.beta, &mut c, UNIT, &mut pack,
+        );
+        println!(rt; "sgemm {} {} {}", self.name, r.number(), Bits(c[0]))
+    }
 }
 
+// 3 times 5, over k depth steps.
 pub fn one_to_five(rt: &impl Print) -> io::Result<()> {
-    let nan: f32 = 0.0 / 0.0;
-    let inf: f32 = 1.0 / 0.0;
-    of_numbers(rt, b"P1", 1, 2.0, 3.0, 5.0, 0.0, nan)?;
-    of_numbers(rt, b"P2", 1, 2.0, 3.0, 5.0, -0.0, inf)?;
-    of_numbers(rt, b"P3", 1, 2.0, 3.0, 5.0, 1.0, 1.0)?;
-    of_numbers(rt, b"P4", 0, 1.0, 3.0, 5.0, 0.0, nan)?;
-    of_numbers(rt, b"P5", 0, 1.0, 3.0, 5.0, 2.0, 3.0)
+    for (name, k, alpha, beta, old) in [
+        ("P1", 1, 2.0, 0.0, f32::NAN),
+        ("P2", 1, 2.0, -0.0, f32::INFINITY),
+        ("P3", 1, 2.0, 1.0, 1.0),
+        ("P4", 0, 1.0, 0.0, f32::NAN),
+        ("P5", 0, 1.0, 2.0, 3.0),
+    ] {
+        let example = Example {
+            name,
+            k,
+            alpha,
+            a: &[3.0],
+            b: &[5.0],
+            beta,
+            old,
+        };
+        example.run(rt)?;
+    }
+    Ok(())
 }
 
 pub fn ten(rt: &impl Print) -> io::Result<()> {
-    let inf: f32 = 1.0 / 0.0;
-    of_numbers(rt, b"P10", 1, 0.0, inf, 1.0, 0.0, 1.0)
+    let example = Example {
+        name: "P10",
+        k: 1,
+        alpha: 0.0,
+        a: &[f32::INFINITY],
+        b: &[1.0],
+        beta: 0.0,
+        old: 1.0,
+    };
+    example.run(rt)
 }
 
 // A = 1, 2, 3 times B = 1 into three elements that lie downwards from base.
@@ -67,23 +74,12 @@ pub fn downwards(rt: &impl Print, base: usize) -> io::Result<()> {
     let b: [f32; 1] = [1.0];
     let mut c: [f32; 3] = [7.0, 7.0, 7.0];
     let mut pack: [f32; 16] = [0.0; 16];
-    let la = Operand {
-        base: 0,
-        rs: 1,
-        cs: 1,
-    };
     let lc = Operand {
-        base: base,
+        base,
         rs: -1,
-        cs: 1,
+        ..UNIT
     };
-    let r = sgemm(3, 1, 1, 1.0, &a, la, &b, la, 0.0, &mut c, lc, &mut pack);
-    answered(rt, b"sgemm downwards", r)?;
-    show::text(rt, b" ")?;
-    show::bits32(rt, c[0])?;
-    show::text(rt, b" ")?;
-    show::bits32(rt, c[1])?;
-    show::text(rt, b" ")?;
-    show::bits32(rt, c[2])?;
-    show::text(rt, b"\n")
+    let r = sgemm(3, 1, 1, 1.0, &a, UNIT, &b, UNIT, 0.0, &mut c, lc, &mut pack);
+    let [x, y, z] = c.map(Bits);
+    println!(rt; "sgemm downwards {} {x} {y} {z}", r.number())
 }

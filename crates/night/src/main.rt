@@ -3,7 +3,7 @@
 // pack("<3sHBHH12d", b"IVP", 1, 2, 4, 3, ..). damaged.ivp has other readings than telemetry.ivp, and lacks its last byte.
 #![tactic(auto)]
 
-ghost use Rattle.std.specs.Prelude.{◌<◌, ◌≤◌};
+ghost use Rattle.std.specs.Prelude.{◌≤◌};
 
 use call::answer::Answer;
 use dgemm::gemm::dgemm;
@@ -12,6 +12,7 @@ use layout::need::{PackLength, pack_length};
 use layout::operand::Operand;
 use panel::file::{PanelAnswer, Shape};
 use panel::real64::read_f64;
+use show::{Hundredths, Refused};
 use std::fs::File;
 use std::io;
 use std::io::Read;
@@ -37,7 +38,7 @@ fn rows_of(columns: usize, base: usize) -> Operand
     requires { columns ≤ 8 }
 {
     Operand {
-        base: base,
+        base,
         rs: columns as isize,
         cs: 1,
     }
@@ -52,97 +53,68 @@ fn scored(
     base: usize,
 ) -> Answer {
     let mut pack = [0.0f64; PACK];
-    let la = rows_of(READINGS, 0);
-    let lb = rows_of(SCORES, 0);
-    let lc = rows_of(SCORES, base);
     dgemm(
         INVERTERS,
         READINGS,
         SCORES,
         1.0,
         readings,
-        la,
+        rows_of(READINGS, 0),
         coefficients,
-        lb,
+        rows_of(SCORES, 0),
         beta,
         scores,
-        lc,
+        rows_of(SCORES, base),
         &mut pack,
     )
 }
 
-fn show_inverter(rt: &impl Print, scores: &Scores, i: usize) -> io::Result<()>
-    requires { i < 4 }
-{
-    show::text(rt, b"  inverter ")?;
-    show::whole(rt, i as u64 + 1)?;
-    show::text(rt, b"   ready ")?;
-    show::hundredths(rt, scores[i * SCORES])?;
-    show::text(rt, b"   strain ")?;
-    show::hundredths(rt, scores[i * SCORES + 1])?;
-    show::text(rt, b"\n")
-}
-
 fn show_scores(rt: &impl Print, scores: &Scores) -> io::Result<()> {
-    show_inverter(rt, scores, 0)?;
-    show_inverter(rt, scores, 1)?;
-    show_inverter(rt, scores, 2)?;
-    show_inverter(rt, scores, 3)
+    for i in 0..INVERTERS {
+        let ready = Hundredths(scores[i * SCORES]);
+        let strain = Hundredths(scores[i * SCORES + 1]);
+        println!(rt; "  inverter {}   ready {ready}   strain {strain}", i + 1)?;
+    }
+    Ok(())
 }
 
 fn show_answer(rt: &impl Print, r: Answer) -> io::Result<()> {
-    show::text(rt, b"  ")?;
     match r {
-        Answer::Done => show::text(rt, b"done")?,
-        Answer::Refused(x) => show::refusal(rt, x)?,
+        Answer::Done => println!(rt; "  done"),
+        Answer::Refused(x) => println!(rt; "  {}", Refused(x)),
     }
-    show::text(rt, b"\n")
 }
 
 fn show_need(rt: &impl Print) -> io::Result<()> {
     match pack_length(Kind::F64, INVERTERS, READINGS, SCORES) {
-        PackLength::Refused(x) => show::refusal(rt, x)?,
-        PackLength::Elements(x) => {
-            show::text(rt, b"the pack buffer needs ")?;
-            show::whole(rt, x as u64)?;
-            show::text(rt, b" elements")?;
-        }
+        PackLength::Refused(x) => println!(rt; "{}\n", Refused(x)),
+        PackLength::Elements(x) => println!(rt; "the pack buffer needs {x} elements\n"),
     }
-    show::text(rt, b"\n\n")
 }
 
 // The rule of six o'clock: no comparison with a gap holds.
-fn show_pick(rt: &impl Print, scores: &Scores, i: usize) -> io::Result<()>
-    requires { i < 4 }
-{
-    show::text(rt, b"  inverter ")?;
-    show::whole(rt, i as u64 + 1)?;
-    if scores[i * SCORES] > 100.0 {
-        show::text(rt, b" is flashed\n")
-    } else {
-        show::text(rt, b" waits\n")
+fn show_picks(rt: &impl Print, scores: &Scores) -> io::Result<()> {
+    for i in 0..INVERTERS {
+        let pick = if scores[i * SCORES] > 100.0 {
+            "is flashed"
+        } else {
+            "waits"
+        };
+        println!(rt; "  inverter {} {pick}", i + 1)?;
     }
-}
-
-fn show_shape(rt: &impl Print, s: Shape) -> io::Result<()> {
-    show::whole(rt, s.rows as u64)?;
-    show::text(rt, b" rows, ")?;
-    show::whole(rt, s.columns as u64)?;
-    show::text(rt, b" columns\n")
+    Ok(())
 }
 
 // Reads a file's bytes into numbers, and answers the shape of what these then hold: the file's, or the old one where nothing was stored.
 fn take(rt: &impl Print, bytes: &[u8], numbers: &mut [f64], old: Shape) -> io::Result<Shape> {
-    let answer = read_f64(bytes, numbers);
-    match answer {
+    match read_f64(bytes, numbers) {
         PanelAnswer::Read(h) => {
             let shape = h.shape;
-            show_shape(rt, shape)?;
+            println!(rt; "{} rows, {} columns", shape.rows, shape.columns)?;
             Ok(shape)
         }
         PanelAnswer::Refused(x) => {
-            show::refusal(rt, x)?;
-            show::text(rt, b"\n  nothing was stored\n")?;
+            println!(rt; "{}\n  nothing was stored", Refused(x))?;
             Ok(old)
         }
     }
@@ -158,7 +130,7 @@ fn take_file(
     let mut bytes = [0u8; 4096];
     let got = show::read_full(file, &mut bytes)?;
     if got == bytes.len() {
-        show::text(rt, b"the file is too long\n")?;
+        println!(rt; "the file is too long")?;
         return Ok(old);
     }
     take(rt, &bytes[..got], numbers, old)
@@ -171,34 +143,25 @@ fn take_named(
     numbers: &mut [f64],
     old: Shape,
 ) -> io::Result<Shape> {
-    show::text(rt, b"  ")?;
-    show::text(rt, path.as_bytes())?;
-    show::text(rt, b": ")?;
+    print!(rt; "  {path}: ")?;
     match File::open(rt, path) {
         Ok(mut file) => take_file(rt, &mut file, numbers, old),
         Err(_) => {
-            show::text(rt, b"the file cannot be opened\n")?;
+            println!(rt; "the file cannot be opened")?;
             Ok(old)
         }
     }
 }
 
 fn is_shape(s: Shape, rows: usize, columns: usize) -> bool {
-    if s.rows as usize != rows {
-        return false;
-    }
-    s.columns as usize == columns
+    usize::from(s.rows) == rows && usize::from(s.columns) == columns
 }
 
 // Have telemetry, coefficients and correction the night's shapes?
 fn are_shapes(telemetry: Shape, coefficients: Shape, correction: Shape) -> bool {
-    if !is_shape(telemetry, INVERTERS, READINGS) {
-        return false;
-    }
-    if !is_shape(coefficients, READINGS, SCORES) {
-        return false;
-    }
-    is_shape(correction, INVERTERS, READINGS)
+    is_shape(telemetry, INVERTERS, READINGS)
+        && is_shape(coefficients, READINGS, SCORES)
+        && is_shape(correction, INVERTERS, READINGS)
 }
 
 // Scores, corrects and picks.
@@ -209,33 +172,18 @@ fn night(
     correction: &Telemetry,
 ) -> io::Result<()> {
     let mut scores = [0.0f64; 8];
-    show::text(
-        rt,
-        b"\ntelemetry times coefficients (a reading of inverter 3 is a gap)\n",
-    )?;
+    println!(rt; "\ntelemetry times coefficients (a reading of inverter 3 is a gap)")?;
     show_answer(rt, scored(readings, coefficients, 0.0, &mut scores, 0))?;
     show_scores(rt, &scores)?;
-    show::text(
-        rt,
-        b"\na late correction for inverter 2, multiplied and added\n",
-    )?;
+    println!(rt; "\na late correction for inverter 2, multiplied and added")?;
     show_answer(rt, scored(correction, coefficients, 1.0, &mut scores, 0))?;
     show_scores(rt, &scores)?;
-    show::text(
-        rt,
-        b"\nthe same correction, laid over the wrong base: one element too far\n",
-    )?;
+    println!(rt; "\nthe same correction, laid over the wrong base: one element too far")?;
     show_answer(rt, scored(correction, coefficients, 1.0, &mut scores, 1))?;
-    show::text(rt, b"  nothing was stored:\n")?;
+    println!(rt; "  nothing was stored:")?;
     show_scores(rt, &scores)?;
-    show::text(
-        rt,
-        b"\nSix o'clock: an inverter is flashed where its ready score is above 100; a gap is not\n",
-    )?;
-    show_pick(rt, &scores, 0)?;
-    show_pick(rt, &scores, 1)?;
-    show_pick(rt, &scores, 2)?;
-    show_pick(rt, &scores, 3)
+    println!(rt; "\nSix o'clock: an inverter is flashed where its ready score is above 100; a gap is not")?;
+    show_picks(rt, &scores)
 }
 
 fn main(rt: HostRuntime) -> io::Result<()> {
@@ -246,29 +194,17 @@ fn main(rt: HostRuntime) -> io::Result<()> {
         rows: 0,
         columns: 0,
     };
-    show::text(
-        &rt,
-        b"Five o'clock: 4 inverters, 3 readings each, 2 scores; ",
-    )?;
+    print!(rt; "Five o'clock: {INVERTERS} inverters, {READINGS} readings each, {SCORES} scores; ")?;
     show_need(&rt)?;
-    show::text(&rt, b"panels from files\n")?;
+    println!(rt; "panels from files")?;
     let first = take_named(&rt, "telemetry.ivp", &mut readings, none)?;
     let known = take_named(&rt, "coefficients.ivp", &mut coefficients, none)?;
     let late = take_named(&rt, "late.ivp", &mut correction, none)?;
-    show::text(
-        &rt,
-        b"\ntelemetry sent once more, but cut short on its way\n",
-    )?;
+    println!(rt; "\ntelemetry sent once more, but cut short on its way")?;
     let telemetry = take_named(&rt, "damaged.ivp", &mut readings, first)?;
     if are_shapes(telemetry, known, late) {
         return night(&rt, &readings, &coefficients, &correction);
     }
-    show::text(
-        &rt,
-        b"\nno scores: telemetry and late are to have 4 rows, 3 columns, coefficients 3 rows, 2 columns;",
-    )?;
-    show::text(
-        &rt,
-        b"\nthe night's files are in crates/night/data, where ./run runs it\n",
-    )
+    println!(rt; "\nno scores: telemetry and late are to have 4 rows, 3 columns, coefficients 3 rows, 2 columns;")?;
+    println!(rt; "the night's files are in crates/night/data, where ./run runs it")
 }

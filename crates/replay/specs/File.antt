@@ -1,9 +1,9 @@
 -- A file of recorded calls, one behind the other: how many it holds, and how many of a kind agree. Definitions only.
-use Rattle.std.specs.Prelude.{ℕ, suc, ◌<◌, ◌≡◌, List, [], length, get_or, drop}
-use Rattle.sample.specs.declared.calls.Comparison.{Comparison}
-use Rattle.sample.specs.Calls.{size_of, IsCall}
-use Rattle.replayed.specs.Replayed.{kind_of, pack_of, lengths_of, Replayed}
-use Rattle.replay.specs.declared.Contents.{Contents}
+use Rattle.std.specs.Prelude.{ℕ, suc, ◌<◌, ◌≡◌, List, [], length, get_or, drop, Result, Ok, Err}
+use Rattle.element.specs.declared.kind.Kind.{Kind}
+use Rattle.sample.specs.Calls.{word_of, size_of, IsCall}
+use Rattle.replayed.specs.Replayed.{pack_of, lengths_of, Replayed}
+use Rattle.replay.specs.declared.Malformed.{Malformed}
 
 -- w begins with so many calls, and `rest` is behind them
 pub data Calls (w : List ℕ) : ℕ → List ℕ → Type 0 where
@@ -17,17 +17,17 @@ pub record Broken (w : List ℕ) (n : ℕ) : Type 0 where
   pub some : 0 < length rest
   pub no_call : IsCall rest → ⊥
 
-abbrev pub ContentsAre : List ℕ → Contents → Type 0
-ContentsAre w (Contents.Calls n) = Calls w n []
-ContentsAre w (Contents.Malformed n) = Broken w n
+abbrev pub ContentsAre : List ℕ → Result ℕ Malformed → Type 0
+ContentsAre w (Ok n) = Calls w n []
+ContentsAre w (Err malformed) = Broken w malformed.number
 
 -- the call that w begins with is of the kind, and agrees
-pub record Agreeing (kind : ℕ) (w : List ℕ) : Type 0 where
-  pub of_kind : get_or w 0 0 ≡ kind
-  pub agrees : Replayed (kind_of (get_or w 0 0)) w (pack_of w) (lengths_of w) Comparison.Agrees
+pub record Agreeing (kind : Kind) (w : List ℕ) : Type 0 where
+  pub of_kind : get_or w 0 0 ≡ word_of kind
+  pub agrees : Replayed kind w (pack_of w) (lengths_of w) (Ok tt)
 
 -- of the calls that w begins with, before `rest`, so many are of the kind and agree
-pub data Agreed (kind : ℕ) (w : List ℕ) : ℕ → List ℕ → Type 0 where
+pub data Agreed (kind : Kind) (w : List ℕ) : ℕ → List ℕ → Type 0 where
   none : Agreed kind w 0 w
   one_more : {n : ℕ} {rest : List ℕ} → Agreed kind w n rest → IsCall rest → Agreeing kind rest
       → Agreed kind w (suc n) (drop (size_of rest) rest)
@@ -35,7 +35,7 @@ pub data Agreed (kind : ℕ) (w : List ℕ) : ℕ → List ℕ → Type 0 where
       → Agreed kind w n (drop (size_of rest) rest)
 
 -- of all the calls that w begins with, so many are of the kind and agree
-pub record Counted (kind : ℕ) (w : List ℕ) (n : ℕ) : Type 0 where
+pub record Counted (kind : Kind) (w : List ℕ) (n : ℕ) : Type 0 where
   pub rest : List ℕ
   pub agreed : Agreed kind w n rest
   pub no_call : IsCall rest → ⊥

@@ -3,116 +3,111 @@
 
 ghost use Rattle.std.specs.Prelude.{◌≡◌, get_or};
 ghost use Rattle.layout.specs.Operands.{Tells};
-ghost use Rattle.sample.specs.declared.calls.Comparison.{Comparison};
-ghost use Rattle.replayed.specs.Replayed.{kind_of, pack_of, lengths_of, Replayed};
+ghost use Rattle.sample.specs.Calls.{word_of};
+ghost use Rattle.replayed.specs.Replayed.{pack_of, lengths_of, Replayed};
 ghost use Rattle.replay.specs.File.{ContentsAre, Agreeing, Counted};
 
+use element::kind::Kind;
 use replayed::{reals32, reals64};
-use sample::calls::{Comparison, KIND, first_call};
+use sample::calls::{Difference, KIND, first_call, word_of};
 use std::fs::File;
-use std::io;
 use std::io::Read;
+use std::{fmt, io};
 use words::{after, from_bytes, word_at};
 
 const PATH: &str = "sample.words";
 
-// How many calls the words hold, or the number of the one that is cut short or malformed.
-#[derive(Drop)]
-enum Contents {
-    Calls(u64),
-    Malformed(u64),
+// The number of the call that is cut short or malformed.
+#[derive(Clone, Copy)]
+struct Malformed {
+    number: u64,
 }
 
-fn contents_of(words: &[u64]) -> Contents
+impl fmt::Display for Malformed {
+    fn fmt<W: fmt::Write>(&self, f: &mut fmt::Formatter<W>) -> fmt::Result {
+        write!(f, "call {} is cut short or malformed", self.number)
+    }
+}
+
+// How many calls the words hold.
+#[tactic(auto, using(crate::specs::FileLaws::none_passed))]
+fn count_of(words: &[u64]) -> Result<u64, Malformed>
     ensures { ContentsAre words.now result }
 {
-    let mut at = 0;
+    let mut rest = words;
     let mut number = 0;
-    while at < words.len() {
-        let size = first_call(after(words, at));
-        if size == 0 {
-            return Contents::Malformed(number);
-        }
-        at += size;
+    while let Some(size) = first_call(rest) {
+        rest = after(rest, size);
         number += 1;
     }
-    Contents::Calls(number)
+    if rest.is_empty() {
+        return Ok(number);
+    }
+    Err(Malformed { number })
 }
 
 // Does the call agree? Where it does not, says what disagrees; a line that cannot be written is lost, and the call disagrees all the same.
-fn report(rt: &impl Print, number: u64, found: Comparison) -> bool
-    ensures { Tells result (found ≡ Comparison.Agrees) }
+fn report(rt: &impl Print, number: u64, found: Result<(), Difference>) -> bool
+    ensures { Tells result (found ≡ Ok tt) }
 {
-    match found {
-        Comparison::Agrees => true,
-        Comparison::Answer => {
-            let _written = println!(rt; "call {number} disagrees: answer");
-            false
-        }
-        Comparison::Place(place) => {
-            let _written = println!(rt; "call {number} disagrees: place {place}");
-            false
-        }
-    }
+    let Err(difference) = found else {
+        return true;
+    };
+    let _written = println!(rt; "call {number} disagrees: {difference}");
+    false
 }
 
-fn replay(call: &[u64]) -> Comparison
-    ensures { Replayed (kind_of (get_or call.now 0 0)) call.now (pack_of call.now)
-        (lengths_of call.now) result }
+// What a call of a kind comes to.
+fn replay(kind: Kind, call: &[u64]) -> Result<(), Difference>
+    requires { get_or call.now 0 0 ≡ word_of kind }
+    ensures { Replayed kind call.now (pack_of call.now) (lengths_of call.now) result }
 {
-    if word_at(call, KIND) % 2 == 0 {
-        return reals32::replay(call);
+    match kind {
+        Kind::F32 | Kind::C32 => reals32::replay(call),
+        Kind::F64 | Kind::C64 => reals64::replay(call),
     }
-    reals64::replay(call)
 }
 
 // Is a call of the kind, and does it agree? Where it disagrees, it is reported under its number.
-fn agrees(rt: &impl Print, call: &[u64], kind: u64, number: u64) -> bool
+fn agrees(rt: &impl Print, call: &[u64], kind: Kind, number: u64) -> bool
     ensures { Tells result (Agreeing kind call.now) }
 {
-    if word_at(call, KIND) != kind {
-        return false;
-    }
-    report(rt, number, replay(call))
+    word_at(call, KIND) == word_of(kind) && report(rt, number, replay(kind, call))
 }
 
 // Replays the calls of a kind, and answers how many agree.
-fn agreeing(rt: &impl Print, words: &[u64], kind: u64) -> u64
+#[tactic(auto, using(crate::specs::FileLaws::none_tallied))]
+fn agreeing(rt: &impl Print, words: &[u64], kind: Kind) -> u64
     ensures { Counted kind words.now result }
 {
     let mut agreed = 0;
-    let mut at = 0;
+    let mut rest = words;
     let mut number = 0;
-    while at < words.len() {
-        let call = after(words, at);
-        let size = first_call(call);
-        if size == 0 {
-            return agreed;
-        }
-        if agrees(rt, call, kind, number) {
+    while let Some(size) = first_call(rest) {
+        if agrees(rt, rest, kind, number) {
             agreed += 1;
         }
-        at += size;
+        rest = after(rest, size);
         number += 1;
     }
     agreed
 }
 
-fn summarise(rt: &impl Print, words: &[u64], kind: u64, name: &str) -> io::Result<()> {
-    let agreed = agreeing(rt, words, kind);
-    println!(rt; "{name}: {agreed} calls agree")
-}
-
-fn summarise_all(rt: &impl Print, words: &[u64]) -> io::Result<()> {
-    match contents_of(words) {
-        Contents::Calls(calls) => {
-            summarise(rt, words, 0, "sgemm")?;
-            summarise(rt, words, 1, "dgemm")?;
-            summarise(rt, words, 2, "cgemm")?;
-            summarise(rt, words, 3, "zgemm")?;
+fn summarise(rt: &impl Print, words: &[u64]) -> io::Result<()> {
+    match count_of(words) {
+        Ok(calls) => {
+            for (kind, name) in [
+                (Kind::F32, "sgemm"),
+                (Kind::F64, "dgemm"),
+                (Kind::C32, "cgemm"),
+                (Kind::C64, "zgemm"),
+            ] {
+                let agreed = agreeing(rt, words, kind);
+                println!(rt; "{name}: {agreed} calls agree")?;
+            }
             println!(rt; "{calls} calls in all")
         }
-        Contents::Malformed(number) => println!(rt; "call {number} is cut short or malformed"),
+        Err(malformed) => println!(rt; "{malformed}"),
     }
 }
 
@@ -124,23 +119,20 @@ fn replay_words(rt: &impl Print, words: &[u64], bytes: usize) -> io::Result<()> 
     if count >= words.len() {
         return println!(rt; "the file is too long");
     }
-    summarise_all(rt, &words[0..count])
+    summarise(rt, &words[..count])
 }
 
 // Reads a file into words, 512 at a time, and answers how many bytes it has, or how many were read where it is longer.
 fn read_words(file: &mut impl Read, words: &mut [u64]) -> io::Result<usize> {
     let mut bytes = [0u8; 4096];
-    let mut at = 0;
-    while at + 512 <= words.len() {
-        let end = at + 512;
+    for (i, block) in words.chunks_exact_mut(512).enumerate() {
         let got = show::read_full(file, &mut bytes)?;
-        from_bytes(&bytes, &mut words[at..end]);
-        if got < 4096 {
-            return Ok(8 * at + got);
+        from_bytes(&bytes, block);
+        if got < bytes.len() {
+            return Ok(4096 * i + got);
         }
-        at = end;
     }
-    Ok(8 * at)
+    Ok(8 * words.len())
 }
 
 fn replay_file(rt: &impl Print, file: &mut impl Read) -> io::Result<()> {

@@ -1,5 +1,5 @@
 -- What running a recorded call and comparing it come to, for every kind. Assumes nothing.
-use Rattle.std.specs.Prelude.{ℕ, ◌<◌, ◌≤◌, ◌≡◌, refl, Bool, true, false, cond, List, ltb, Float, length, get_or, take, drop, replicate}
+use Rattle.std.specs.Prelude.{ℕ, ◌<◌, ◌≤◌, ◌≡◌, refl, Bool, true, false, cond, List, ltb, Float, length, get_or, take, drop, replicate, Result, Ok, Err}
 use Rattle.std.proofs.Common.{sym, ap, ◌∙◌, subst, arith, lt-ltb, le-ltb, length-take-le}
 use Rattle.std.specs.Float.{Format, binary32, binary64}
 use Rattle.std.proofs.lemmas.List.{length-replicate}
@@ -13,7 +13,7 @@ use Rattle.call.specs.declared.judge.Matrices.{Matrices}
 use Rattle.call.specs.Call.{Call}
 use Rattle.call.specs.Verdict.{lengths}
 use Rattle.call.specs.Outcome.{answer_number, Outcome}
-use Rattle.sample.specs.declared.calls.Comparison.{Comparison}
+use Rattle.sample.specs.declared.calls.Difference.{Difference}
 use Rattle.sample.specs.Calls.{matrices_of}
 use Rattle.replayed.specs.Replayed.{format_of, kind32, kind64, scalar_at, recorded, words_a, words_b, words_c, Ran, Compared, Replayed}
 
@@ -51,10 +51,10 @@ ran_by {k} e w {A = A} {B} {C} {D} {P} {Q} {r} f g h o =
 
 module _ {f : Format} {number x : ℕ} {D : List Float} (w : List ℕ) (e : x ≡ get_or w 0 0) (same : number ≡ x) {rest : List ℕ}
     (behind : rest ≡ drop 1 w) {place : ℕ} (d : FirstDifference f D rest place) where
-  pub other_float : place < length D → Compared f w number D (Comparison.Place place)
+  pub other_float : place < length D → Compared f w number D (Err (Difference.Place place))
   other_float l = (same ∙ e, l, subst (λ (s : List ℕ). FirstDifference f D s place) behind d)
 
-  pub no_difference : length D ≤ place → Compared f w number D Comparison.Agrees
+  pub no_difference : length D ≤ place → Compared f w number D (Ok tt)
   no_difference l = (same ∙ e, λ i m. (subst (λ (s : List ℕ). FirstDifference f D s place) behind d).agree i (omega arith))
 
 -- ---- the slices are prefixes of arrays
@@ -65,7 +65,7 @@ prefix_long n x h = sym (length-take-le n (replicate 4096 x) (rw (length-replica
 pub prefix_is : {n m : ℕ} (x : Float) → n ≤ 4096 → n ≡ m → length (take n (replicate 4096 x)) ≡ m
 prefix_is {n} x h e = sym (prefix_long n x h) ∙ e
 
-pub replayed_over : {k : Kind} {w : List ℕ} {p p' : ℕ} {n n' : Lengths} {o : Comparison} → p ≡ p' → n ≡ n' → Replayed k w p n o
+pub replayed_over : {k : Kind} {w : List ℕ} {p p' : ℕ} {n n' : Lengths} {o : Result Unit Difference} → p ≡ p' → n ≡ n' → Replayed k w p n o
     → Replayed k w p' n' o
 replayed_over {k} {w} {p} {p'} {n} {n'} {o} e f run =
     subst (λ (z : Lengths). Replayed k w p' z o) f (subst (λ (z : ℕ). Replayed k w z n o) e run)
@@ -78,7 +78,7 @@ module _ {kind : Kind} {f : Format} (k : format_of kind ≡ f) (w : List ℕ) (A
     (a : (A' ≡ floats_of f (length A) wa) × (wb ≡ drop (length A) wa))
     (b : (B' ≡ floats_of f (length B) wb) × (wc ≡ drop (length B) wb))
     (c : (C' ≡ floats_of f (length C) wc) × (rest ≡ drop (length C) wc)) where
-  pub replayed_by : {r : Answer} {number : ℕ} {o : Comparison} → Ran kind w A' B' C' D P Q r → number ≡ answer_number r
+  pub replayed_by : {r : Answer} {number : ℕ} {o : Result Unit Difference} → Ran kind w A' B' C' D P Q r → number ≡ answer_number r
       → Compared f rest number D o → Replayed kind w (length P) (lengths A B C) o
   replayed_by {r} {number} {o} run is seen =
       let n = lengths A B C in

@@ -1,5 +1,5 @@
 -- What a recorded call comes to when it is run again. Definitions only.
-use Rattle.std.specs.Prelude.{ℕ, ◌%◌, ◌<◌, ◌≡◌, cond, List, ltb, eqb, Float, length, get_or, drop}
+use Rattle.std.specs.Prelude.{ℕ, ◌%◌, ◌<◌, ◌≡◌, cond, List, ltb, eqb, Float, length, get_or, drop, Result, Ok, Err}
 use Rattle.std.specs.Float.{nan, Format, binary32, binary64}
 use Rattle.element.specs.Kinds.{arith_of}
 use Rattle.element.specs.declared.kind.Kind.{Kind}
@@ -9,7 +9,7 @@ use Rattle.call.specs.declared.answer.Answer.{Answer}
 use Rattle.call.specs.declared.judge.Lengths.{Lengths}
 use Rattle.call.specs.Call.{Call}
 use Rattle.call.specs.Outcome.{answer_number, Outcome}
-use Rattle.sample.specs.declared.calls.Comparison.{Comparison}
+use Rattle.sample.specs.declared.calls.Difference.{Difference}
 use Rattle.sample.specs.Calls.{matrices_of, length_at}
 
 -- a call's kind by its number: even numbers are over f32 and odd ones over f64, 0 and 1 real and the others complex
@@ -64,15 +64,15 @@ abbrev pub Ran : Kind → List ℕ → (A B C D P Q : List Float) → Answer →
 Ran kind w = Outcome (recorded_call kind w)
 
 -- Against the words that were recorded, the number and C's slice D agree, the numbers differ, or a place is the first whose float differs.
-abbrev pub Compared : Format → List ℕ → ℕ → List Float → Comparison → Type 0
-Compared f w number D Comparison.Agrees =
+abbrev pub Compared : Format → List ℕ → ℕ → List Float → Result Unit Difference → Type 0
+Compared f w number D (Ok _) =
     (number ≡ get_or w 0 0) × ((i : ℕ) → i < length D → get_or D i nan ≡ float_of f (get_or (drop 1 w) i 0))
-Compared f w number D Comparison.Answer = number ≡ get_or w 0 0 → ⊥
-Compared f w number D (Comparison.Place i) = (number ≡ get_or w 0 0) × (i < length D) × FirstDifference f D (drop 1 w) i
+Compared f w number D (Err Difference.Answer) = number ≡ get_or w 0 0 → ⊥
+Compared f w number D (Err (Difference.Place i)) = (number ≡ get_or w 0 0) × (i < length D) × FirstDifference f D (drop 1 w) i
 
 -- The call that words hold was run over slices of so many floats that were filled from them, with a pack buffer of so many, and what it
 -- answered and left in C's slice was compared with what is recorded.
-pub record Replayed (kind : Kind) (w : List ℕ) (pack : ℕ) (n : Lengths) (o : Comparison) : Type 0 where
+pub record Replayed (kind : Kind) (w : List ℕ) (pack : ℕ) (n : Lengths) (o : Result Unit Difference) : Type 0 where
   pub D : List Float
   pub P : List Float
   pub Q : List Float

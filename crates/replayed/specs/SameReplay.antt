@@ -1,5 +1,5 @@
 -- Any two outcomes of one recorded call are equal. Assumes nothing.
-use Rattle.std.specs.Prelude.{ℕ, ◌≡◌, refl, List, Float, length}
+use Rattle.std.specs.Prelude.{ℕ, ◌≡◌, refl, List, Float, length, Result, Ok, Err}
 use Rattle.std.proofs.Common.{sym, ap, ◌∙◌, subst}
 use Rattle.std.specs.Float.{Format}
 use Rattle.element.specs.declared.kind.Kind.{Kind}
@@ -11,7 +11,7 @@ use Rattle.call.specs.Verdict.{lengths, Verdict}
 use Rattle.call.specs.Outcome.{answer_number, Leaves, Outcome}
 use Rattle.call.specs.OneOutcome.{one_left, verdict_one}
 use Rattle.call.proofs.PieceLaws.{does_same}
-use Rattle.sample.specs.declared.calls.Comparison.{Comparison}
+use Rattle.sample.specs.declared.calls.Difference.{Difference}
 use Rattle.replayed.specs.Replayed.{format_of, recorded, Compared, Replayed}
 
 -- the number and the end of C's slice do not depend on what the pack buffer held
@@ -24,20 +24,20 @@ left_same q A B C D D' P P' Q Q' r r' long o o' =
 
 -- the comparison has one outcome
 
-pub compared_same : (f : Format) (w : List ℕ) (n : ℕ) (D : List Float) (o o' : Comparison) → Compared f w n D o → Compared f w n D o'
+pub compared_same : (f : Format) (w : List ℕ) (n : ℕ) (D : List Float) (o o' : Result Unit Difference) → Compared f w n D o → Compared f w n D o'
     → o ≡ o'
-compared_same f w n D Comparison.Agrees Comparison.Agrees x y = refl
-compared_same f w n D Comparison.Agrees Comparison.Answer x y = absurd (y x.0)
-compared_same f w n D Comparison.Agrees (Comparison.Place i) x y = absurd (y.2.differs y.1 (x.1 i y.1))
-compared_same f w n D Comparison.Answer Comparison.Agrees x y = absurd (x y.0)
-compared_same f w n D Comparison.Answer Comparison.Answer x y = refl
-compared_same f w n D Comparison.Answer (Comparison.Place i) x y = absurd (x y.0)
-compared_same f w n D (Comparison.Place i) Comparison.Agrees x y = absurd (x.2.differs x.1 (y.1 i x.1))
-compared_same f w n D (Comparison.Place i) Comparison.Answer x y = absurd (y x.0)
-compared_same f w n D (Comparison.Place i) (Comparison.Place j) x y = ap Comparison.Place (first_difference_same x.2 y.2)
+compared_same f w n D (Ok _) (Ok _) x y = refl
+compared_same f w n D (Ok _) (Err Difference.Answer) x y = absurd (y x.0)
+compared_same f w n D (Ok _) (Err (Difference.Place i)) x y = absurd (y.2.differs y.1 (x.1 i y.1))
+compared_same f w n D (Err Difference.Answer) (Ok _) x y = absurd (x y.0)
+compared_same f w n D (Err Difference.Answer) (Err Difference.Answer) x y = refl
+compared_same f w n D (Err Difference.Answer) (Err (Difference.Place i)) x y = absurd (x y.0)
+compared_same f w n D (Err (Difference.Place i)) (Ok _) x y = absurd (x.2.differs x.1 (y.1 i x.1))
+compared_same f w n D (Err (Difference.Place i)) (Err Difference.Answer) x y = absurd (y x.0)
+compared_same f w n D (Err (Difference.Place i)) (Err (Difference.Place j)) x y = ap (λ place. Err (Difference.Place place)) (first_difference_same x.2 y.2)
 
 -- ANY TWO OUTCOMES ARE EQUAL
-pub replayed_same : {kind : Kind} {w : List ℕ} {pack : ℕ} {n : Lengths} {o o' : Comparison} → Replayed kind w pack n o
+pub replayed_same : {kind : Kind} {w : List ℕ} {pack : ℕ} {n : Lengths} {o o' : Result Unit Difference} → Replayed kind w pack n o
     → Replayed kind w pack n o' → o ≡ o'
 replayed_same {kind} {w} {pack} {n} {o} {o'} x y =
     let (number, slice) =

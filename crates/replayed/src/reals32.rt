@@ -8,7 +8,7 @@ use call::answer::Answer;
 use cgemm::gemm::cgemm;
 use floats::floats32::{complex_of, fill, first_difference};
 use sample::calls::{
-    A_LENGTH, ALPHA, B_LENGTH, BETA, C_LENGTH, Comparison, FLOATS, KIND, PACK_LENGTH, length_at,
+    A_LENGTH, ALPHA, B_LENGTH, BETA, C_LENGTH, Difference, FLOATS, KIND, PACK_LENGTH, length_at,
     matrices_of,
 };
 use sgemm::gemm::sgemm;
@@ -31,18 +31,18 @@ fn answer(call: &[u64], a: &[f32], b: &[f32], c: &mut [f32], pack: &mut [f32]) -
 }
 
 // How the number of our answer and C's slice after the call compare with what is recorded.
-fn compared(number: u64, c: &[f32], recorded: &[u64]) -> Comparison
+fn compared(number: u64, c: &[f32], recorded: &[u64]) -> Result<(), Difference>
     ensures { Compared binary32 recorded.now number c.now result }
 {
     let expected = word_at(recorded, 0);
     if number != expected {
-        return Comparison::Answer;
+        return Err(Difference::Answer);
     }
     let place = first_difference(c, after(recorded, 1));
     if place < c.len() {
-        return Comparison::Place(place);
+        return Err(Difference::Place(place));
     }
-    Comparison::Agrees
+    Ok(())
 }
 
 // What a call comes to, with room for its slices.
@@ -52,7 +52,7 @@ fn replay_in(
     b: &mut [f32],
     c: &mut [f32],
     pack: &mut [f32],
-) -> Comparison
+) -> Result<(), Difference>
     ensures { Replayed (kind32 (get_or call.now 0 0)) call.now (length pack.old)
         (lengths a.old b.old c.old) result }
 {
@@ -64,7 +64,7 @@ fn replay_in(
 }
 
 // What a call comes to.
-pub fn replay(call: &[u64]) -> Comparison
+pub fn replay(call: &[u64]) -> Result<(), Difference>
     ensures { Replayed (kind32 (get_or call.now 0 0)) call.now (pack_of call.now)
         (lengths_of call.now) result }
 {

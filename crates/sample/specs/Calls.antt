@@ -4,8 +4,17 @@ use Rattle.std.specs.Float.{binary32}
 use Rattle.std.specs.Float.Ieee.{top}
 use Rattle.std.specs.Int.{w64}
 use Rattle.std.proofs.Common.{to_z}
+use Rattle.element.specs.declared.kind.Kind.{Kind}
+use Rattle.element.specs.declared.kind.Kind.TheVariants.{F32, F64, C32, C64}
 use Rattle.layout.specs.declared.operand.Operand.{Operand}
 use Rattle.call.specs.declared.judge.Matrices.{Matrices}
+
+-- the word of a kind: even words are over f32 and odd ones over f64, 0 and 1 real and the others complex
+abbrev pub word_of : Kind → ℕ
+word_of F32 = 0
+word_of F64 = 1
+word_of C32 = 2
+word_of C64 = 3
 
 -- a base, and two strides in two's complement behind it
 abbrev pub operand_at : List ℕ → ℕ → Operand

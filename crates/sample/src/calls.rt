@@ -1,11 +1,12 @@
 // How a call lies in its words: 21 words of numbers, the floats of A, B and C, the answer, and C's floats after the call.
-ghost use Rattle.std.specs.Prelude.{◌≡◌, ◌≤◌};
-ghost use Rattle.refusal.specs.Order.{First};
+ghost use Rattle.std.specs.Prelude.{◌≡◌, ◌≤◌, get_or, MatchOption};
 ghost use Rattle.layout.specs.Operands.{Tells};
-ghost use Rattle.sample.specs.Calls.{operand_at, matrices_of, length_at, size_of, Short, Patterns, HoldsFloats, IsCall};
+ghost use Rattle.sample.specs.Calls.{word_of, operand_at, matrices_of, length_at, size_of, Short, Patterns, HoldsFloats, IsCall};
 
 use call::judge::Matrices;
+use element::kind::Kind;
 use layout::operand::Operand;
+use std::fmt;
 use words::{after, signed, word_at};
 
 // Where each number stands.
@@ -25,20 +26,50 @@ pub const BETA: usize = 19;
 
 pub const FLOATS: usize = 21;
 
-// The kinds: sgemm, dgemm, cgemm and zgemm.
-pub const KINDS: u64 = 4;
-
 const LONGEST: u64 = 4096;
 
 // The largest pattern of an f32.
 const LARGEST: u64 = 0xffff_ffff;
 
-// What a call came to: as recorded, another answer, or another float at a place of C's slice.
+// Where a call differs from what is recorded: in the answer, or first in the float at a place of C's slice.
 #[derive(Clone, Copy)]
-pub enum Comparison {
-    Agrees,
+pub enum Difference {
     Answer,
     Place(usize),
+}
+
+impl fmt::Display for Difference {
+    fn fmt<W: fmt::Write>(&self, f: &mut fmt::Formatter<W>) -> fmt::Result {
+        match self {
+            Difference::Answer => f.write_str("answer"),
+            Difference::Place(place) => write!(f, "place {place}"),
+        }
+    }
+}
+
+// The word of a kind: 0 to 3 for sgemm, dgemm, cgemm and zgemm.
+pub fn word_of(kind: Kind) -> u64
+    ensures { result ≡ word_of kind }
+{
+    match kind {
+        Kind::F32 => 0,
+        Kind::F64 => 1,
+        Kind::C32 => 2,
+        Kind::C64 => 3,
+    }
+}
+
+// The kind of a call, where its first word is that of one.
+pub fn kind_of(call: &[u64]) -> Option<Kind>
+    ensures { MatchOption result (4 ≤ get_or call.now 0 0) (λ kind. get_or call.now 0 0 ≡ word_of kind) }
+{
+    match word_at(call, KIND) {
+        0 => Some(Kind::F32),
+        1 => Some(Kind::F64),
+        2 => Some(Kind::C32),
+        3 => Some(Kind::C64),
+        _ => None,
+    }
 }
 
 // The operand whose base stands at an index, with its strides behind it.
@@ -71,70 +102,51 @@ pub fn matrices_of(call: &[u64]) -> Matrices
 pub fn length_at(call: &[u64], i: usize) -> usize
     ensures { result ≡ length_at call.now i }
 {
-    let n = word_at(call, i);
-    if n < LONGEST {
-        return n as usize;
-    }
-    4096
+    word_at(call, i).min(LONGEST) as usize
 }
 
 // Is none of the four lengths longer than a call may have?
 fn is_short(call: &[u64]) -> bool
     ensures { Tells result (Short call.now) }
 {
-    if word_at(call, A_LENGTH) > LONGEST {
-        return false;
-    }
-    if word_at(call, B_LENGTH) > LONGEST {
-        return false;
-    }
-    if word_at(call, C_LENGTH) > LONGEST {
-        return false;
-    }
-    word_at(call, PACK_LENGTH) <= LONGEST
+    word_at(call, A_LENGTH) <= LONGEST
+        && word_at(call, B_LENGTH) <= LONGEST
+        && word_at(call, C_LENGTH) <= LONGEST
+        && word_at(call, PACK_LENGTH) <= LONGEST
 }
 
 // Is each word a pattern of an f32?
 fn are_patterns(words: &[u64]) -> bool
     ensures { Tells result (Patterns words.now) }
 {
-    let mut i = 0;
-    while i < words.len() {
-        if words[i] > LARGEST {
-            return false;
-        }
-        i += 1;
-    }
-    true
+    words.iter().all(|&word| word <= LARGEST)
 }
 
 // Are the words from alpha on, the answer's among them, patterns of the call's kind?
-fn holds_floats(call: &[u64]) -> bool
+fn holds_floats(kind: Kind, call: &[u64]) -> bool
+    requires { get_or call.now 0 0 ≡ word_of kind }
     ensures { Tells result (HoldsFloats call.now) }
 {
-    if word_at(call, KIND) % 2 == 1 {
-        return true;
+    match kind {
+        Kind::F32 | Kind::C32 => are_patterns(after(call, ALPHA)),
+        Kind::F64 | Kind::C64 => true,
     }
-    are_patterns(after(call, ALPHA))
 }
 
-// How many words the first call takes, 0 where they are cut short or are no call.
-pub fn first_call(words: &[u64]) -> usize
-    ensures { First (IsCall words.now) (size_of words.now) (λ s. s ≡ 0) result }
+// How many words the first call takes, where they are all there and are one.
+pub fn first_call(words: &[u64]) -> Option<usize>
+    ensures { MatchOption result (IsCall words.now → ⊥) (λ size. IsCall words.now × (size ≡ size_of words.now)) }
 {
-    if word_at(words, KIND) >= KINDS {
-        return 0;
-    }
+    let kind = kind_of(words)?;
     if !is_short(words) {
-        return 0;
+        return None;
     }
     let c = length_at(words, C_LENGTH);
     let size = FLOATS + length_at(words, A_LENGTH) + length_at(words, B_LENGTH) + c + 1 + c;
-    if size > words.len() {
-        return 0;
+    let call = words.get(..size)?;
+    if holds_floats(kind, call) {
+        Some(size)
+    } else {
+        None
     }
-    if holds_floats(&words[..size]) {
-        return size;
-    }
-    0
 }

@@ -1,13 +1,13 @@
-// How the programs read and write: a file's bytes; text, whole numbers, floats by their bits or with two decimals, what a refusal
-// means.
+// How the programs read and write: a file's bytes; floats by their bits or with two decimals; what a refusal means.
 #![tactic(auto)]
 
 ghost use Rattle.std.specs.Prelude.{ℕ, ◌<◌, ◌≤◌, IfOk, OnErr, length, take};
 ghost use Rattle.std.specs.Io.KnownBytes.{Consumes, IsAtEnd};
 
 use refusal::Refusal;
-use std::io;
 use std::io::Read;
+use std::num::saturating_f64_to_u64;
+use std::{fmt, io};
 
 // Reads until the buffer is full or the file ends, and answers how many bytes it has put at the buffer's start. Where a read fails, what
 // the file gave before stands there too.
@@ -19,6 +19,7 @@ pub fn read_full<R: Read>(file: &mut R, buffer: &mut [u8]) -> io::Result<usize>
         × Consumes (R.remaining file.old) (R.remaining file.new) (take n buffer.new)) }
 {
     let mut done = 0;
+    // The step is what a read gives: `read_exact` answers no count, and says nothing of the bytes before a failure.
     while done < buffer.len() {
         let got = file.read(&mut buffer[done..])?;
         if got == 0 {
@@ -29,52 +30,52 @@ pub fn read_full<R: Read>(file: &mut R, buffer: &mut [u8]) -> io::Result<usize>
     Ok(done)
 }
 
-pub fn text(rt: &impl Print, s: &[u8]) -> io::Result<()> {
-    rt.write_all(s)
-}
+// A float by its bits, or nan.
+#[derive(Clone, Copy)]
+pub struct Bits<F>(pub F);
 
-pub fn whole(rt: &impl Print, n: u64) -> io::Result<()> {
-    print!(rt; "{n}")
-}
-
-// The bits of x, or nan.
-pub fn bits32(rt: &impl Print, x: f32) -> io::Result<()> {
-    if x.is_nan() {
-        return text(rt, b"nan");
+impl fmt::Display for Bits<f32> {
+    fn fmt<W: fmt::Write>(&self, f: &mut fmt::Formatter<W>) -> fmt::Result {
+        if self.0.is_nan() {
+            return f.write_str("nan");
+        }
+        write!(f, "{:08x}", self.0.to_bits())
     }
-    print!(rt; "{:08x}", f32::to_bits(x))
 }
 
-pub fn bits64(rt: &impl Print, x: f64) -> io::Result<()> {
-    if x.is_nan() {
-        return text(rt, b"nan");
+impl fmt::Display for Bits<f64> {
+    fn fmt<W: fmt::Write>(&self, f: &mut fmt::Formatter<W>) -> fmt::Result {
+        if self.0.is_nan() {
+            return f.write_str("nan");
+        }
+        write!(f, "{:016x}", self.0.to_bits())
     }
-    print!(rt; "{:016x}", f64::to_bits(x))
 }
 
 // x in hundredths, rounded half up; 0 for what is too large, below 0 or NaN.
 fn in_hundredths(x: f64) -> u64 {
     let y = x * 100.0 + 0.5;
-    if y > -1.0 {
-        if y < 18446744073709551616.0 {
-            return std::num::truncating_f64_to_u64(y);
-        }
+    if y < 18446744073709551616.0 {
+        return saturating_f64_to_u64(y);
     }
     0
 }
 
-// x with two decimals; a gap where it is NaN.
-pub fn hundredths(rt: &impl Print, x: f64) -> io::Result<()> {
-    if x.is_nan() {
-        return text(rt, b"gap");
+// A float with two decimals; a gap where it is NaN.
+#[derive(Clone, Copy)]
+pub struct Hundredths(pub f64);
+
+impl fmt::Display for Hundredths {
+    fn fmt<W: fmt::Write>(&self, f: &mut fmt::Formatter<W>) -> fmt::Result {
+        if self.0.is_nan() {
+            return f.write_str("gap");
+        }
+        if self.0 < 0.0 {
+            f.write_str("-")?;
+        }
+        let n = in_hundredths(self.0.abs());
+        write!(f, "{}.{:02}", n / 100, n % 100)
     }
-    let mut y = x;
-    if x < 0.0 {
-        text(rt, b"-")?;
-        y = -x;
-    }
-    let n = in_hundredths(y);
-    print!(rt; "{}.{}{}", n / 100, n / 10 % 10, n % 10)
 }
 
 // What a refusal means, in the words of the C header.
@@ -100,6 +101,11 @@ fn meaning(x: Refusal) -> &'static str {
 }
 
 // A refusal by its number, and what it means.
-pub fn refusal(rt: &impl Print, x: Refusal) -> io::Result<()> {
-    print!(rt; "refused with {}: {}", x.number(), meaning(x))
+#[derive(Clone, Copy)]
+pub struct Refused(pub Refusal);
+
+impl fmt::Display for Refused {
+    fn fmt<W: fmt::Write>(&self, f: &mut fmt::Formatter<W>) -> fmt::Result {
+        write!(f, "refused with {}: {}", self.0.number(), meaning(self.0))
+    }
 }

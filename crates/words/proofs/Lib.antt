@@ -1,3 +1,2 @@
 -- What the crate's proofs cite.
 pub mod ByteLaws
-pub mod SignLaws

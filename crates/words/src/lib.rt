@@ -11,22 +11,18 @@ ghost use Rattle.words.specs.Words.{number_at, word_of};
 fn byte_at(bytes: &[u8], i: usize) -> u64
     ensures { (result ≡ get_or bytes.now i 0) × (result < 256) }
 {
-    if i < bytes.len() {
-        return bytes[i] as u64;
-    }
-    0
+    u64::from(bytes.get(i).copied().unwrap_or(0))
 }
 
 // The number that `width` bytes make from an index on, read from the highest down.
+#[tactic(auto, using(crate::proofs::ByteLaws::none_read, crate::proofs::ByteLaws::room_for_byte))]
 pub fn number_at(bytes: &[u8], width: usize, first: usize) -> u64
     requires { (width ≤ 8) × (first < 2 ^ 63) }
     ensures { (result ≡ number_at width bytes.now first) × (result < 256 ^ width) }
 {
     let mut number = 0;
-    let mut left = width;
-    while left > 0 {
-        left -= 1;
-        let byte = byte_at(bytes, first + left);
+    for i in (0..width).rev() {
+        let byte = byte_at(bytes, first + i);
         number = byte + 256 * number;
     }
     number
@@ -36,10 +32,8 @@ pub fn number_at(bytes: &[u8], width: usize, first: usize) -> u64
 pub fn from_bytes(bytes: &[u8], words: &mut [u64])
     ensures { words.new ≡ tab (length words.old) (word_of bytes.now) }
 {
-    let mut i = 0;
-    while i < words.len() {
-        words[i] = number_at(bytes, 8, 8 * i);
-        i += 1;
+    for (i, word) in words.iter_mut().enumerate() {
+        *word = number_at(bytes, 8, 8 * i);
     }
 }
 
@@ -47,28 +41,19 @@ pub fn from_bytes(bytes: &[u8], words: &mut [u64])
 pub fn word_at(words: &[u64], i: usize) -> u64
     ensures { result ≡ get_or words.now i 0 }
 {
-    if i < words.len() {
-        return words[i];
-    }
-    0
+    words.get(i).copied().unwrap_or(0)
 }
 
 // The words after the first n, none where there are fewer.
 pub fn after(words: &[u64], n: usize) -> &[u64]
     ensures { result.now ≡ drop n words.now }
 {
-    if n < words.len() {
-        return &words[n..];
-    }
-    &words[..0]
+    words.get(n..).unwrap_or(&[])
 }
 
 // The whole number that a word stands for in two's complement.
 pub fn signed(word: u64) -> isize
     ensures { result ≡ to_z w64 word }
 {
-    if word < 0x8000_0000_0000_0000 {
-        return word as isize;
-    }
-    -1 - (0xffff_ffff_ffff_ffff - word) as isize
+    word.cast_signed() as isize
 }

@@ -1,5 +1,4 @@
--- `words::from_bytes` meets its contract. The invariant: the words before `i` are filled, the others as they were. The measure is
--- how many are left. Assumes nothing.
+-- After the loop every word is filled. Assumes nothing.
 use Rattle.std.proofs.Common.{arith}
 use Rattle.rules.specs.ListLaws.{filled_all}
 use Rattle.words.proofs.from_bytes.Goals as goal

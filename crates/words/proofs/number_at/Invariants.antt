@@ -1,8 +1,6 @@
+-- `words::number_at` meets its contract. The invariant: the number is that of the bytes from `i` on. Assumes nothing.
 use Rattle.words.proofs.ByteLaws.{Reading}
 use Rattle.words.proofs.number_at.Given as goal
 
-abbrev pub invariant-loop-left : goal.invariant-loop-left
-invariant-loop-left l = Reading l.bytes l.width l.first l.number l.left
-
-abbrev pub decreases-loop-left : goal.decreases-loop-left
-decreases-loop-left l = l.left
+abbrev pub invariant-loop-i : goal.invariant-loop-i
+invariant-loop-i l = Reading l.bytes l.width l.first l.number l.i
