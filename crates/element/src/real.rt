@@ -1,5 +1,5 @@
 // The reals: a number that is one float, f32 or f64, and the arithmetic of its format.
-ghost use Rattle.std.specs.Prelude.{◌≡◌, List, Float, map};
+ghost use Rattle.std.specs.Prelude.{◌≡◌, ◌<◌, ◌^◌, List, Float, length, map};
 ghost use Rattle.std.specs.Float.{Format};
 ghost use Rattle.std.specs.Float.Ieee.{add, sub, mul, neg, eq};
 ghost use Rattle.rules.specs.Element.{+0, +1};
@@ -13,6 +13,10 @@ pub trait Real: Copy {
 
     // A slice of reals as floats.
     ghost floats: { List Self → List Float };
+
+    // How long a slice is: a real takes some bytes, so the length is far below what a usize holds.
+    fn count(s: &[Self]) -> usize
+        ensures { (result ≡ length s.now) × (result < 2 ^ 62) };
 
     fn zero() -> Self
         ensures { held.is result ≡ +0 };

@@ -30,8 +30,13 @@ fn collides(rt: &impl Print, m: usize, n: usize, lc: Operand, c: &mut [f32]) -> 
 // What the need of an f32 call is, or that it is refused.
 fn need(rt: &impl Print, m: usize, k: usize, n: usize) -> io::Result<()> {
     match pack_length(Kind::F32, m, k, n) {
+<<<<<<< HEAD
         Err(x) => println!(rt; "sgemm need refused {}", x.number()),
         Ok(x) => println!(rt; "sgemm need {x}"),
+=======
+        PackLength::Refused(x) => println!(rt; "sgemm need refused {}", x.number()),
+        PackLength::Elements(x) => println!(rt; "sgemm need {x}"),
+>>>>>>> 1f09f2fae73535590af1878263487183924ce3f0
     }
 }
 
@@ -71,9 +76,8 @@ pub fn all(rt: &impl Print) -> io::Result<()> {
     collides(rt, 2, 2, mirrored, &mut five)?;
     need(rt, 9, 300, 5)?;
     let mut enough = [0.0f32; 6144];
-    let mut short = [0.0f32; 6143];
     packed(rt, &mut enough)?;
-    packed(rt, &mut short)?;
+    packed(rt, &mut enough[..6143])?;
     collides(rt, 65536, 2, near, &mut five)?;
     collides(rt, 65537, 2, near, &mut five)?;
     need(rt, 65536, 65536, 65536)?;

@@ -1,68 +1,30 @@
--- Which float a word stands for, and when a float is it, at either width. Assumes nothing.
-use mathlib.Core.Path.{◌≡◌, refl, sym, ◌∙◌, ap, subst}
-use mathlib.Core.Bool.{Bool, true, false, not, cond}
-use Prim.Native.Nat.{ℕ, ◌*◌, ◌%◌, ◌≤◌, ◌<◌}
-use borrow.Author.Tests.{lt-ltb, le-ltb, eqb-true, eqb-false}
-use lib.Dec.{T, eqb}
-use lib.Ieee.{Float, nan, inf, fin, Format, hid, ones, top, ne, fits, is_nan, nan_bits, of_bits, to_bits}
-use lib.Ieee.Bits.{nan_bits_is, nan_bits_above, of_bits-to_bits}
-use lib.Ieee.Compare.{differs_from_itself, nan_differs}
-use Rattle.layout.specs.Operands.{Tells}
-use Rattle.layout.specs.Tests.{true_false, tells_by, tells_false}
+-- Which float a word stands for, and the floats of a slice of reals one by one. Assumes nothing.
+use mathlib.Core.Path.{◌≡◌, sym, ◌∙◌, ap, subst}
+use mathlib.Core.Bool.{Bool, true, cond}
+use Prim.Native.Nat.{ℕ, ◌*◌, ◌≤◌, ◌<◌}
+use borrow.Author.Tests.{le-ltb}
+use lib.Dec.{T}
+use lib.Ieee.{Float, Format, binary32, nan, top, fits, of_bits, to_bits}
+use lib.Ieee.Bits.{of_bits-to_bits}
+use Rattle.std.proofs.Common.{List, length, get_or, map, arith, ext_get_or}
+use Rattle.rules.specs.Lists.{tab}
+use Rattle.rules.specs.ListLaws.{length-tab, get_or-tab}
+use Rattle.element.specs.FloatLaws.{length_floats, get_floats}
 use Rattle.floats.specs.Floats.{float_of}
 
-holds : {b : Bool} → b ≡ true → T b
-holds e = subst T (sym e) tt
+-- a word that is too large for a pattern of 32 bits is a NaN
+pub large_word : (word : ℕ) → 0x1_0000_0000 ≤ word → of_bits binary32 0x7fc0_0000 ≡ float_of binary32 word
+unfolding float_of of_bits
+large_word word h = ap (λ (b : Bool). cond b (of_bits binary32 word) nan) (sym (le-ltb word (2 * top binary32) h))
 
--- a pattern that is not above infinity's, the sign left out, is no NaN's
-pub pattern_no_nan : (f : Format) (n : ℕ) → n % top f ≤ ones f * hid f → T (not (nan_bits f n))
-pattern_no_nan f n h = subst (λ (b : Bool). T (not b)) (sym (nan_bits_above f n ∙ le-ltb (ones f * hid f) (n % top f) h)) tt
+-- a float's pattern says which it is
+pub pattern_back : (f : Format) (n : ℕ) (x : Float) → fits f x ≡ true → n ≡ to_bits f x → of_bits f n ≡ x
+pattern_back f n x h e = ap (of_bits f) e ∙ of_bits-to_bits f x (subst T (sym h) tt)
 
--- a float that does not differ from itself is no NaN
-pub same_no_nan : (x : Float) → ne x x ≡ false → T (not (is_nan x))
-unfolding is_nan
-same_no_nan nan e = subst T (sym nan_differs ∙ e) tt
-same_no_nan (inf s) e = tt
-same_no_nan (fin s m x) e = tt
-
--- ---- the float of a word
-
-nan_is : (x : Float) → is_nan x ≡ true → x ≡ nan
-unfolding is_nan
-nan_is nan e = refl
-nan_is (inf s) e = true_false (sym e)
-nan_is (fin s m x) e = true_false (sym e)
-
-pub pattern_float : (f : Format) (word : ℕ) → word < 2 * top f → of_bits f word ≡ float_of f word
-unfolding float_of
-pattern_float f word h = ap (λ (b : Bool). cond b (of_bits f word) nan) (sym (lt-ltb word (2 * top f) h))
-
-pub large_float : (f : Format) (word : ℕ) → 2 * top f ≤ word → nan ≡ float_of f word
-unfolding float_of
-large_float f word h = ap (λ (b : Bool). cond b (of_bits f word) nan) (sym (le-ltb word (2 * top f) h))
-
-pub nan_float : (f : Format) (word : ℕ) → word < 2 * top f → ones f * hid f < word % top f → nan ≡ float_of f word
-nan_float f word l h =
-    let above : is_nan (of_bits f word) ≡ true = sym (nan_bits_is f word) ∙ nan_bits_above f word
-    ∙ lt-ltb (ones f * hid f) (word % top f) h in
-    sym (nan_is (of_bits f word) above) ∙ pattern_float f word l
-
--- ---- is a float the word's, y, which is w?
-
-module _ {x y w : Float} (e : y ≡ w) where
-  pub nan_tells : ne x x ≡ true → Tells (ne y y) (x ≡ w)
-  nan_tells d =
-      tells_by (ne y y)
-      (λ t. differs_from_itself x (holds d) ∙ sym (differs_from_itself y (holds t)) ∙ e)
-      (λ t s. true_false (sym d ∙ ap (λ (z : Float). ne z z) (s ∙ sym e) ∙ t))
-
-  pub number_tells : ne x x ≡ false → ne y y ≡ true → Tells false (x ≡ w)
-  number_tells d t = tells_false (λ s. true_false (sym t ∙ ap (λ (z : Float). ne z z) (e ∙ sym s) ∙ d))
-
-  -- two floats of a format are equal where their patterns are
-  pub pattern_tells : (f : Format) → fits f x ≡ true → fits f y ≡ true → Tells (eqb (to_bits f x) (to_bits f y)) (x ≡ w)
-  pattern_tells f p q =
-      tells_by (eqb (to_bits f x) (to_bits f y))
-      (λ t. sym (of_bits-to_bits f x (holds p)) ∙ ap (of_bits f) (eqb-true (to_bits f x) (to_bits f y) t)
-      ∙ of_bits-to_bits f y (holds q) ∙ e)
-      (λ t s. eqb-false (to_bits f x) (to_bits f y) t (ap (to_bits f) (s ∙ sym e)))
+-- the floats of n reals, each of which is known
+pub floats_tab : {N : Type 0} {is : N → Float} {floats : List N → List Float} → ((s : List N) → floats s ≡ map is s)
+    → (s : List N) (z : N) (n : ℕ) (g : ℕ → Float) → length s ≡ n → ((k : ℕ) → k < n → is (get_or s k z) ≡ g k) → floats s ≡ tab n g
+floats_tab {is} {floats} each s z n g e h =
+    let long : length (floats s) ≡ n = length_floats each s ∙ e in
+    ext_get_or (is z) (floats s) (tab n g) (long ∙ sym (length-tab n g))
+    (λ k m. let below : k < n = omega (arith, long) in get_floats each s k z ∙ h k below ∙ sym (get_or-tab n g k (is z) below))

@@ -6,6 +6,7 @@ use crate::scale::c_to_beta_c;
 use call::judge::{Lengths, Matrices};
 use element::elements::Element;
 use element::fate::Fate;
+use element::real::Real;
 use gemm_loops::outer::gemm_loop;
 use kernel::kernels::Kernel;
 use layout::operand::Operand;
@@ -42,9 +43,9 @@ pub fn gemm<T: Kernel + Packs>(
         c: lc,
     };
     let floats = Lengths {
-        a: a.len(),
-        b: b.len(),
-        c: c.len(),
+        a: T::Real::count(a),
+        b: T::Real::count(b),
+        c: T::Real::count(c),
     };
     over.judge(T::kind(), pack.len(), floats)?;
     if m == 0 || n == 0 {
