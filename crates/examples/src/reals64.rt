@@ -2,6 +2,7 @@
 // What both real kinds share, in f64: P1 to P5, P10, and three elements that lie downwards.
 use dgemm::gemm::dgemm;
 use layout::operand::Operand;
+use refusal::answer_number;
 use show::Bits;
 use std::io;
 
@@ -12,7 +13,10 @@ const UNIT: Operand = Operand {
 };
 
 // One element: k depth steps of a and b over old.
+<<<<<<< HEAD
 #[derive(Clone, Copy)]
+=======
+>>>>>>> 1f09f2fae73535590af1878263487183924ce3f0
 pub struct Example<'a> {
     pub name: &'a str,
     pub k: usize,
@@ -28,8 +32,12 @@ impl<'a> Example<'a> {
         let mut c = [self.old];
         let mut pack: [f64; 3072] = [0.0; 3072];
         let r = dgemm(
+<<<<<<< HEAD
             1, self.k, 1, self.alpha, self.a, UNIT, self.b, UNIT, self.beta, &mut c, UNIT,
             &mut pack,
+=======
+            1, self.k, 1, self.alpha, self.a, UNIT, self.b, UNIT, self.beta, &mut c, UNIT, &mut pack,
+>>>>>>> 1f09f2fae73535590af1878263487183924ce3f0
         );
         println!(rt; "dgemm {} {} {}", self.name, r.number(), Bits(c[0]))
     }

@@ -8,7 +8,7 @@ ghost use Rattle.panel.specs.Reader.{ReadOutcome, ElementOutcome};
 
 use crate::file::{Header, Shape};
 use crate::head::{HEAD, judge};
-use floats::floats64::float_of;
+use floats::floats32::float_of;
 use refusal::Refusal;
 use words::number_at;
 

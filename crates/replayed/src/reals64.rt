@@ -6,7 +6,7 @@ ghost use Rattle.call.specs.Verdict.{lengths};
 ghost use Rattle.replayed.specs.Replayed.{kind64, lengths_of, pack_of, Ran, Compared, Replayed};
 
 use dgemm::gemm::dgemm;
-use floats::floats64::{complex_of, fill, first_difference};
+use floats::floats32::{complex_of, fill, first_difference};
 use refusal::{Refusal, answer_number};
 use sample::calls::{
     A_LENGTH, ALPHA, B_LENGTH, BETA, C_LENGTH, Difference, FLOATS, KIND, PACK_LENGTH, length_at,
