@@ -62,7 +62,8 @@ pub fn ragged<T: Element, const N: usize>(
     lanes_of(w, |i| element_at(a, la, m, kc, first + i, p))
 }
 
-// w elements by places from row `first` on, none of them missing.
+// w elements by places from row `first` on, none of them missing. Apart from `ragged`, whose test for missing rows makes packing f32 a
+// tenth slower and f64 by more than a half.
 fn general<T: Element, const N: usize>(
     w: usize,
     a: &[T::Real],

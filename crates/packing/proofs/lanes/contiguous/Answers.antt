@@ -7,4 +7,5 @@ use Rattle.packing.proofs.lanes.contiguous.Goals as goal
 
 pub lanes_of-requires : goal.lanes_of-requires
 lanes_of-requires g c =
-    grind (serving, elements_few g.T.Element.kind (length (g.T.Real.Real.floats c.args.a.now)), length_floats g.met.T.Real.Real.each c.args.a.now)
+    let A = g.T.Real.Real.floats c.args.a.now in
+    grind (serving, elements_few g.T.Element.kind (length A), length_floats g.met.T.Real.Real.each c.args.a.now)
