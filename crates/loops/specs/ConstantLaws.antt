@@ -2,7 +2,7 @@
 use Rattle.std.specs.Prelude.{◌≡◌, ℕ, zero, suc, min, ◌*◌, ◌<◌, ◌≤◌}
 use Rattle.std.proofs.Common.{sym, ap, ◌∙◌, arith}
 use Rattle.rules.specs.Element.{chunks}
-use Rattle.element.specs.Kinds.{Constants, tiling_of, per_element}
+use Rattle.element.specs.Kinds.{Constants, view_of, tiling_of, per_element}
 use Rattle.layout.specs.{Need.round_up, NeedLaws.round_lt}
 use Rattle.element.specs.declared.kind.Kind.{Kind}
 use Rattle.element.specs.declared.kind.Kind.TheVariants.{F32, F64, C32, C64}
@@ -46,3 +46,10 @@ rows_few F32 m = omega (arith, round_lt (min m 64) 8 (omega arith))
 rows_few F64 m = omega (arith, round_lt (min m 64) 4 (omega arith))
 rows_few C32 m = omega (arith, round_lt (min m 32) 4 (omega arith))
 rows_few C64 m = omega (arith, round_lt (min m 32) 4 (omega arith))
+
+-- so many floats hold no more elements than that
+pub count_most : (kind : Kind) (n : ℕ) → (view_of kind).count n ≤ n
+count_most F32 n = omega arith
+count_most F64 n = omega arith
+count_most C32 n = omega arith
+count_most C64 n = omega arith

@@ -1,7 +1,7 @@
 -- `gemm` meets its contract: each of its four ends is one of the ways in which a call ends, and what the verdict leaves is what the loops
 -- ask. Assumes nothing.
 use Rattle.std.specs.Prelude.{Float, Ok, Err}
-use Rattle.std.proofs.Common.{List, ◌≡◌, ◌<◌, ◌⊎◌, length, inl, inr, refl, sym, ◌∙◌, arith}
+use Rattle.std.proofs.Common.{List, ℕ, ◌≡◌, ◌<◌, ◌^◌, ◌⊎◌, length, inl, inr, refl, sym, ◌∙◌, arith}
 use Rattle.std.proofs.lemmas.Result.{err_from_is_err_and}
 use Rattle.refusal.proofs.NumberLaws.{refusal_some}
 use Rattle.element.specs.{Fates.fate_of, Kinds.depth_chunk, Kinds.view_of}
@@ -11,7 +11,7 @@ use Rattle.call.specs.{Call.Call, Call.call_of, Call.Does, Verdict.lengths, Verd
 use Rattle.call.specs.DoneLaws.{writable_c, readable_a, readable_b, enough_room, none_idle}
 use Rattle.call.specs.EndLaws.{does_empty, out_refused, out_idle, out_full}
 use Rattle.call.proofs.EndLaws.{does_flat}
-use Rattle.loops.specs.{Work.MatricesFit, DepthLoop.depth_done, ColumnLoop.kept_elements}
+use Rattle.loops.specs.{ConstantLaws.count_most, Work.MatricesFit, DepthLoop.depth_done, ColumnLoop.kept_elements}
 use Rattle.gemm.proofs.gemm.gemm.Given.{Over}
 use Rattle.gemm.proofs.gemm.gemm.Goals as goal
 use Rattle.gemm.proofs.gemm.gemm.Goals.{In_ok-judge}
@@ -26,7 +26,13 @@ returns-in_err-judge g c =
     let p = err_from_is_err_and c.from_residual.result c.from_residual.ensures.1 in
     let q : Call g.T.Element.kind = call_of g.T.Element.kind a.m a.k a.n (is a.alpha) a.la a.lb (is a.beta) a.lc in
     rw (p.1, p.2) (out_refused q (floats a.a.now) (floats a.b.now) (floats a.c.now) (floats a.pack.now) (Err _)
-    (rw (c.kind.ensures, sym (long a.a.now), sym (long a.b.now), sym (long a.c.now), sym (long a.pack.now)) at c.in_err-judge.ensures)
+    (rw (
+      c.kind.ensures,
+      c.count.ensures.0 ∙ sym (long a.a.now),
+      c.count-2.ensures.0 ∙ sym (long a.b.now),
+      c.count-3.ensures.0 ∙ sym (long a.c.now),
+      sym (long a.pack.now),
+    ) at c.in_err-judge.ensures)
     (refusal_some _))
 
 -- a call that was not refused
@@ -40,13 +46,26 @@ unfolding Verdict
 accepted g c =
     let a = c.args in
     let long = length_floats g.met.T.Real.Real.each in
-    rw (c.kind.ensures, sym (long a.a.now), sym (long a.b.now), sym (long a.c.now), sym (long a.pack.now)) at c.in_ok-judge.ensures
+    rw (
+      c.kind.ensures,
+      c.count.ensures.0 ∙ sym (long a.a.now),
+      c.count-2.ensures.0 ∙ sym (long a.b.now),
+      c.count-3.ensures.0 ∙ sym (long a.c.now),
+      sym (long a.pack.now),
+    ) at c.in_ok-judge.ensures
+
+-- a slice's elements are no more than its reals, and those are few
+few : (g : Over) (s : List g.row.T-Real.Denot) {n : ℕ} → n ≡ length s → n < 2 ^ 62
+    → (view_of g.T.Element.kind).count (length (g.T.Real.Real.floats s)) < 2 ^ 62
+few g s e h =
+    let k = g.T.Element.kind in
+    omega (arith, count_most k (length (g.T.Real.Real.floats s)), length_floats g.met.T.Real.Real.each s, e)
 
 target : (g : Over) (c : In_ok-judge g) → 0 < c.args.m → 0 < c.args.n → let a = c.args in
     Writable a.m a.n a.lc ((view_of g.T.Element.kind).count (length (g.T.Real.Real.floats a.c.now)))
 unfolding Verdict
-target g c m n = writable_c g.T.Element.kind _ (whole g c).over _ (accepted g c) m n
-    (omega (arith, length_floats g.met.T.Real.Real.each c.args.c.now))
+target g c m n =
+    writable_c g.T.Element.kind _ (whole g c).over _ (accepted g c) m n (few g c.args.c.now c.count-3.ensures.0 c.count-3.ensures.1)
 
 -- an end that leaves D in C and the pack buffer as it was, with nothing to do for the loops
 idle : (g : Over) (c : In_ok-judge g) (D : List Float) → let a = c.args in let floats = g.T.Real.Real.floats in
@@ -85,11 +104,10 @@ fits : (g : Over) (c : In_ok-judge g) → 0 < c.args.m → 0 < c.args.k → 0 < 
     MatricesFit g.T.Element.kind a.m a.k a.n a.la a.lb a.lc (floats a.a.now) (floats a.b.now) (floats a.c.now)
 unfolding Verdict
 fits g c m k n =
-    let o = (whole g c).over in
-    let each = g.met.T.Real.Real.each in record {
+    let o = (whole g c).over in record {
       writable = target g c m n;
-      readable_a = readable_a g.T.Element.kind _ o _ (accepted g c) m n k (omega (arith, length_floats each c.args.a.now));
-      readable_b = readable_b g.T.Element.kind _ o _ (accepted g c) m n k (omega (arith, length_floats each c.args.b.now));
+      readable_a = readable_a g.T.Element.kind _ o _ (accepted g c) m n k (few g c.args.a.now c.count.ensures.0 c.count.ensures.1);
+      readable_b = readable_b g.T.Element.kind _ o _ (accepted g c) m n k (few g c.args.b.now c.count-2.ensures.0 c.count-2.ensures.1);
     }
 
 pub gemm_loop-requires : goal.gemm_loop-requires
