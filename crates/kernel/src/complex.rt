@@ -22,11 +22,11 @@ struct Parts<R, const MR: usize, const NR: usize> {
 // One column of the tile with one depth step's products added: b is its element of B.
 fn column_step<Z: Paired, const MR: usize>(
     t: [Z; MR],
-    pp: [Z::Real; MR],
-    qq: [Z::Real; MR],
+    pp: &[Z::Real; MR],
+    qq: &[Z::Real; MR],
     b: Z,
 ) -> [Z; MR]
-    ensures { result ≡ line Z.held MR (λ i. (complex Z.Real.format).step (at Z.held t i) (both Z.Real.held pp qq i) (Z.held.is b)) }
+    ensures { result ≡ line Z.held MR (λ i. (complex Z.Real.format).step (at Z.held t i) (both Z.Real.held pp.now qq.now i) (Z.held.is b)) }
 {
     let mut u = t;
     for i in 0..MR {
@@ -38,12 +38,12 @@ fn column_step<Z: Paired, const MR: usize>(
 // The tile with one depth step's products added.
 fn step<Z: Paired, const MR: usize, const NR: usize>(
     t: [[Z; MR]; NR],
-    pp: [Z::Real; MR],
-    qq: [Z::Real; MR],
-    rr: [Z::Real; NR],
-    ss: [Z::Real; NR],
+    pp: &[Z::Real; MR],
+    qq: &[Z::Real; MR],
+    rr: &[Z::Real; NR],
+    ss: &[Z::Real; NR],
 ) -> [[Z; MR]; NR]
-    ensures { result ≡ stepped (complex Z.Real.format) Z.held MR NR t (both Z.Real.held pp qq) (both Z.Real.held rr ss) }
+    ensures { result ≡ stepped (complex Z.Real.format) Z.held MR NR t (both Z.Real.held pp.now qq.now) (both Z.Real.held rr.now ss.now) }
 {
     let mut u = t;
     for j in 0..NR {
@@ -71,7 +71,7 @@ fn next<Z: Paired, const MR: usize, const NR: usize>(
         rr: reals_from(b, p * (NR + NR)),
         ss: reals_from(b, p * (NR + NR) + NR),
     };
-    step(t, x.pp, x.qq, x.rr, x.ss)
+    step(t, &x.pp, &x.qq, &x.rr, &x.ss)
 }
 
 // The sums of kc depth steps of two packed panels.

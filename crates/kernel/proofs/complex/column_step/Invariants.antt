@@ -10,7 +10,7 @@ abbrev pub invariant-loop-i : goal.invariant-loop-i
 invariant-loop-i g l =
     let held = g.Z.Paired.held in
     let r = g.Z.Real.Real in
-    (length l.fn.pp ≡ g.row.MR)
-    × (length l.fn.qq ≡ g.row.MR)
+    (length l.pp ≡ g.row.MR)
+    × (length l.qq ≡ g.row.MR)
     × Filled held.none g.row.MR l.i
-    (λ k. held.of ((complex r.format).step (at held l.fn.t k) (both r.held l.fn.pp l.fn.qq k) (held.is l.fn.b))) l.fn.t l.u
+    (λ k. held.of ((complex r.format).step (at held l.fn.t k) (both r.held l.pp l.qq k) (held.is l.fn.b))) l.fn.t l.u

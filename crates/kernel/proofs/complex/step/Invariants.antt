@@ -16,7 +16,7 @@ added f real held h pp qq b t = line held h (λ i. (complex f).step (at held t i
 abbrev pub invariant-loop-j : goal.invariant-loop-j
 invariant-loop-j g l =
     let r = g.Z.Real.Real in
-    (length l.fn.rr ≡ g.row.NR)
-    × (length l.fn.ss ≡ g.row.NR)
+    (length l.rr ≡ g.row.NR)
+    × (length l.ss ≡ g.row.NR)
     × Filled [] g.row.NR l.j
-    (λ j. added r.format r.held g.Z.Paired.held g.row.MR l.fn.pp l.fn.qq (both r.held l.fn.rr l.fn.ss j) (get_or l.fn.t j [])) l.fn.t l.u
+    (λ j. added r.format r.held g.Z.Paired.held g.row.MR l.pp l.qq (both r.held l.rr l.ss j) (get_or l.fn.t j [])) l.fn.t l.u
