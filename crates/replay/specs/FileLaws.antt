@@ -1,5 +1,6 @@
 -- The calls of a file, one behind the other, as a loop passes them. Assumes nothing.
-use Rattle.std.specs.Prelude.{ℕ, ◌+◌, ◌-◌, ◌≤◌, ◌<◌, ◌≡◌, Bool, true, false, List, [], ◌∷◌, length, get_or, drop, refl, Option, None, Some, is_some, Result, Ok}
+use Rattle.std.specs.Prelude.{ℕ, ◌+◌, ◌-◌, ◌≤◌, ◌<◌, ◌≡◌, Bool, true, false, List, [], ◌∷◌, length, get_or, drop, refl}
+use Rattle.std.specs.Prelude.{Option, None, Some, is_some, Result, Ok}
 use Rattle.std.specs.Borrow.{Bor}
 use Rattle.std.proofs.Common.{ap, ◌∙◌, subst, add-one, arith, length-drop}
 use Rattle.element.specs.declared.kind.Kind.{Kind}

@@ -2,7 +2,8 @@
 ghost use Rattle.std.specs.Prelude.{◌≡◌, ◌≤◌, length, get_or, MatchOption};
 ghost use Rattle.std.specs.Iterator.{at_most};
 ghost use Rattle.layout.specs.Operands.{Tells};
-ghost use Rattle.sample.specs.Calls.{word_of, operand_at, matrices_of, length_at, size_of, Short, Patterns, HoldsFloats, IsCall, PassesCall};
+ghost use Rattle.sample.specs.Calls.{word_of, operand_at, matrices_of, length_at, size_of};
+ghost use Rattle.sample.specs.Calls.{Short, Patterns, HoldsFloats, IsCall, PassesCall};
 
 use call::judge::Matrices;
 use element::kind::Kind;
