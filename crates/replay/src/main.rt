@@ -9,11 +9,11 @@ ghost use Rattle.replay.specs.File.{ContentsAre, Agreeing, Counted};
 
 use element::kind::Kind;
 use replayed::{reals32, reals64};
-use sample::calls::{Difference, KIND, first_call, word_of};
+use sample::calls::{Calls, Difference, KIND, word_of};
 use std::fs::File;
 use std::io::Read;
 use std::{fmt, io};
-use words::{after, from_bytes, word_at};
+use words::{from_bytes, word_at};
 
 const PATH: &str = "sample.words";
 
@@ -34,20 +34,20 @@ impl fmt::Display for Malformed {
 fn count_of(words: &[u64]) -> Result<u64, Malformed>
     ensures { ContentsAre words.now result }
 {
-    let mut rest = words;
+    let mut calls = Calls { rest: words };
     let mut number = 0;
-    while let Some(size) = first_call(rest) {
-        rest = after(rest, size);
+    // After a `for` over `calls.by_ref()` a proof knows nothing of what is left.
+    while calls.next().is_some() {
         number += 1;
     }
-    if rest.is_empty() {
+    if calls.rest.is_empty() {
         return Ok(number);
     }
     Err(Malformed { number })
 }
 
 // Does the call agree? Where it does not, says what disagrees; a line that cannot be written is lost, and the call disagrees all the same.
-fn report(rt: &impl Print, number: u64, found: Result<(), Difference>) -> bool
+fn report(rt: &impl Print, number: usize, found: Result<(), Difference>) -> bool
     ensures { Tells result (found ≡ Ok tt) }
 {
     let Err(difference) = found else {
@@ -69,7 +69,7 @@ fn replay(kind: Kind, call: &[u64]) -> Result<(), Difference>
 }
 
 // Is a call of the kind, and does it agree? Where it disagrees, it is reported under its number.
-fn agrees(rt: &impl Print, call: &[u64], kind: Kind, number: u64) -> bool
+fn agrees(rt: &impl Print, call: &[u64], kind: Kind, number: usize) -> bool
     ensures { Tells result (Agreeing kind call.now) }
 {
     word_at(call, KIND) == word_of(kind) && report(rt, number, replay(kind, call))
@@ -81,14 +81,10 @@ fn agreeing(rt: &impl Print, words: &[u64], kind: Kind) -> u64
     ensures { Counted kind words.now result }
 {
     let mut agreed = 0;
-    let mut rest = words;
-    let mut number = 0;
-    while let Some(size) = first_call(rest) {
-        if agrees(rt, rest, kind, number) {
+    for (number, call) in (Calls { rest: words }).enumerate() {
+        if agrees(rt, call, kind, number) {
             agreed += 1;
         }
-        rest = after(rest, size);
-        number += 1;
     }
     agreed
 }

@@ -25,8 +25,8 @@ left_same q A B C D D' P P' Q Q' r r' long o o' =
 
 -- the comparison has one outcome
 
-pub compared_same : (f : Format) (w : List ℕ) (n : ℕ) (D : List Float) (o o' : Result Unit Difference) → Compared f w n D o → Compared f w n D o'
-    → o ≡ o'
+pub compared_same : (f : Format) (w : List ℕ) (n : ℕ) (D : List Float) (o o' : Result Unit Difference) → Compared f w n D o
+    → Compared f w n D o' → o ≡ o'
 compared_same f w n D (Ok _) (Ok _) x y = refl
 compared_same f w n D (Ok _) (Err Difference.Answer) x y = absurd (y x.0)
 compared_same f w n D (Ok _) (Err (Difference.Place i)) x y = absurd (y.2.differs y.1 (x.1 i y.1))
@@ -35,7 +35,8 @@ compared_same f w n D (Err Difference.Answer) (Err Difference.Answer) x y = refl
 compared_same f w n D (Err Difference.Answer) (Err (Difference.Place i)) x y = absurd (x y.0)
 compared_same f w n D (Err (Difference.Place i)) (Ok _) x y = absurd (x.2.differs x.1 (y.1 i x.1))
 compared_same f w n D (Err (Difference.Place i)) (Err Difference.Answer) x y = absurd (y x.0)
-compared_same f w n D (Err (Difference.Place i)) (Err (Difference.Place j)) x y = ap (λ place. Err (Difference.Place place)) (first_difference_same x.2 y.2)
+compared_same f w n D (Err (Difference.Place i)) (Err (Difference.Place j)) x y =
+    ap (λ place. Err (Difference.Place place)) (first_difference_same x.2 y.2)
 
 -- ANY TWO OUTCOMES ARE EQUAL
 pub replayed_same : {kind : Kind} {w : List ℕ} {pack : ℕ} {n : Lengths} {o o' : Result Unit Difference} → Replayed kind w pack n o

@@ -1,5 +1,6 @@
 -- Where a call's sizes and operands stand in its words, and when words begin with a call. Definitions only.
-use Rattle.std.specs.Prelude.{ℕ, ◌+◌, ◌*◌, ◌%◌, ◌≤◌, ◌<◌, min, ◌≡◌, List, length, get_or, take, drop}
+use Rattle.std.specs.Prelude.{ℕ, ◌+◌, ◌*◌, ◌%◌, ◌≤◌, ◌<◌, min, ◌≡◌, List, length, get_or, take, drop, Option, MatchOption}
+use Rattle.std.specs.Borrow.{Bor}
 use Rattle.std.specs.Float.{binary32}
 use Rattle.std.specs.Float.Ieee.{top}
 use Rattle.std.specs.Int.{w64}
@@ -52,3 +53,9 @@ pub record IsCall (w : List ℕ) : Type 0 where
   pub short : Short w
   pub whole : size_of w ≤ length w
   pub floats : HoldsFloats (take (size_of w) w)
+
+-- From words that begin with a call these words are given and the call is passed, and from others nothing is; `rest` reads the words left.
+abbrev pub PassesCall : {S : Type 0} → (S → List ℕ) → S → Option (Bor (List ℕ)) → S → Type 0
+PassesCall rest s r t =
+    MatchOption r ((IsCall (rest s) → ⊥) × (rest t ≡ rest s))
+    (λ call. (call.now ≡ rest s) × IsCall (rest s) × (rest t ≡ drop (size_of (rest s)) (rest s)))

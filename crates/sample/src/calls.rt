@@ -1,7 +1,9 @@
 // How a call lies in its words: 21 words of numbers, the floats of A, B and C, the answer, and C's floats after the call.
-ghost use Rattle.std.specs.Prelude.{◌≡◌, ◌≤◌, get_or, MatchOption};
+ghost use Rattle.std.specs.Prelude.{◌≡◌, ◌≤◌, length, get_or, MatchOption};
+ghost use Rattle.std.specs.Iterator.{at_most};
 ghost use Rattle.layout.specs.Operands.{Tells};
-ghost use Rattle.sample.specs.Calls.{word_of, operand_at, matrices_of, length_at, size_of, Short, Patterns, HoldsFloats, IsCall};
+ghost use Rattle.sample.specs.Calls.{word_of, operand_at, matrices_of, length_at, size_of};
+ghost use Rattle.sample.specs.Calls.{Short, Patterns, HoldsFloats, IsCall, PassesCall};
 
 use call::judge::Matrices;
 use element::kind::Kind;
@@ -148,5 +150,25 @@ pub fn first_call(words: &[u64]) -> Option<usize>
         Some(size)
     } else {
         None
+    }
+}
+
+// The calls that words begin with, one behind the other: of each, the words from it on.
+#[derive(Drop)]
+pub struct Calls<'a> {
+    pub rest: &'a [u64],
+}
+
+impl<'a> Iterator for Calls<'a> {
+    type Item = &'a [u64];
+
+    ghost next_gives = { PassesCall (λ s. s.rest.now) };
+
+    ghost remaining = { λ s. at_most (length s.rest.now) };
+
+    fn next(&mut self) -> Option<&'a [u64]> {
+        let call = self.rest;
+        self.rest = after(call, first_call(call)?);
+        Some(call)
     }
 }

@@ -2,7 +2,6 @@
 use Rattle.replay.specs.FileLaws.{one_passed}
 use Rattle.replay.proofs.count_of.Goals as goal
 
-pub loop-size-preserved : goal.loop-size-preserved
-loop-size-preserved c =
-    let (call, size) = c.in-Some.ensures in
-    one_passed c.loop-size.invariant call size c.after-rest.ensures
+pub loop-number-preserved : goal.loop-number-preserved
+loop-number-preserved c =
+    record { can = tt; finite = tt; passed = one_passed c.next.result c.loop-number.invariant.passed c.next.ensures.steps (cc) }
