@@ -138,7 +138,7 @@ fn take(rt: &impl Print, bytes: &[u8], numbers: &mut [f64], old: Shape) -> io::R
             show_shape(rt, h.shape)?;
             Ok(h.shape)
         }
-        PanelErr(x) => {
+        Err(x) => {
             show::refusal(rt, x)?;
             show::text(rt, b"\n  nothing was stored\n")?;
             Ok(old)
