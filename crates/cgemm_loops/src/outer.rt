@@ -114,9 +114,8 @@ pub fn gemm_loop(
         (need_of tiling chunk m k n * per_element kind)
         c.old c.new pack.old pack.new }
 {
-    let rows = m
-        .min(Complex32::ROW_CHUNK)
-        .next_multiple_of(Complex32::TILE_ROWS);
+    let longest = m.min(Complex32::ROW_CHUNK);
+    let rows = longest.next_multiple_of(Complex32::TILE_ROWS);
     let asize = k.min(chunk) * (rows * Complex32::FLOATS);
     let count = chunk_count(n, Complex32::COLUMN_CHUNK);
     let mut j = 0usize;

@@ -113,7 +113,8 @@ pub fn gemm_loop(
         (need_of tiling chunk m k n * per_element kind)
         c.old c.new pack.old pack.new }
 {
-    let rows = m.min(Real32::ROW_CHUNK).next_multiple_of(Real32::TILE_ROWS);
+    let longest = m.min(Real32::ROW_CHUNK);
+    let rows = longest.next_multiple_of(Real32::TILE_ROWS);
     let asize = k.min(chunk) * (rows * Real32::FLOATS);
     let count = chunk_count(n, Real32::COLUMN_CHUNK);
     let mut j = 0usize;

@@ -114,9 +114,8 @@ pub fn gemm_loop(
         (need_of tiling chunk m k n * per_element kind)
         c.old c.new pack.old pack.new }
 {
-    let rows = m
-        .min(Complex64::ROW_CHUNK)
-        .next_multiple_of(Complex64::TILE_ROWS);
+    let longest = m.min(Complex64::ROW_CHUNK);
+    let rows = longest.next_multiple_of(Complex64::TILE_ROWS);
     let asize = k.min(chunk) * (rows * Complex64::FLOATS);
     let count = chunk_count(n, Complex64::COLUMN_CHUNK);
     let mut j = 0usize;
