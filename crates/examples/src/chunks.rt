@@ -8,13 +8,10 @@ pub fn six_to_eight(rt: &impl Print) -> io::Result<()> {
     a[0] = 16777216.0;
     a[256] = 1.0;
     a[257] = 1.0;
-<<<<<<< HEAD
     let mut earlier = [0.0f32; 257];
     earlier[0] = 16777216.0;
     earlier[255] = 1.0;
     earlier[256] = 1.0;
-=======
->>>>>>> 1f09f2fae73535590af1878263487183924ce3f0
     let seven = reals32::Example {
         name: "P7",
         k: 258,
@@ -27,7 +24,6 @@ pub fn six_to_eight(rt: &impl Print) -> io::Result<()> {
     let six = reals32::Example {
         name: "P6",
         k: 3,
-<<<<<<< HEAD
         a: &[16777216.0, 1.0, 1.0],
         ..seven
     };
@@ -35,24 +31,10 @@ pub fn six_to_eight(rt: &impl Print) -> io::Result<()> {
         name: "P8",
         k: 257,
         a: &earlier,
-=======
-        a: &[16777216.0f32, 1.0, 1.0],
->>>>>>> 1f09f2fae73535590af1878263487183924ce3f0
         ..seven
     };
     six.run(rt)?;
     seven.run(rt)?;
-<<<<<<< HEAD
-=======
-    let mut a = a;
-    a[255] = 1.0;
-    let eight = reals32::Example {
-        name: "P8",
-        k: 257,
-        a: &a,
-        ..seven
-    };
->>>>>>> 1f09f2fae73535590af1878263487183924ce3f0
     eight.run(rt)
 }
 

@@ -30,13 +30,8 @@ fn collides(rt: &impl Print, m: usize, n: usize, lc: Operand, c: &mut [f32]) -> 
 // What the need of an f32 call is, or that it is refused.
 fn need(rt: &impl Print, m: usize, k: usize, n: usize) -> io::Result<()> {
     match pack_length(Kind::F32, m, k, n) {
-<<<<<<< HEAD
         Err(x) => println!(rt; "sgemm need refused {}", x.number()),
         Ok(x) => println!(rt; "sgemm need {x}"),
-=======
-        PackLength::Refused(x) => println!(rt; "sgemm need refused {}", x.number()),
-        PackLength::Elements(x) => println!(rt; "sgemm need {x}"),
->>>>>>> 1f09f2fae73535590af1878263487183924ce3f0
     }
 }
 

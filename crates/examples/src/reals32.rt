@@ -12,10 +12,7 @@ const UNIT: Operand = Operand {
 };
 
 // One element: k depth steps of a and b over old.
-<<<<<<< HEAD
 #[derive(Clone, Copy)]
-=======
->>>>>>> 1f09f2fae73535590af1878263487183924ce3f0
 pub struct Example<'a> {
     pub name: &'a str,
     pub k: usize,
@@ -31,12 +28,8 @@ impl<'a> Example<'a> {
         let mut c = [self.old];
         let mut pack: [f32; 3072] = [0.0; 3072];
         let r = sgemm(
-<<<<<<< HEAD
             1, self.k, 1, self.alpha, self.a, UNIT, self.b, UNIT, self.beta, &mut c, UNIT,
             &mut pack,
-=======
-            1, self.k, 1, self.alpha, self.a, UNIT, self.b, UNIT, self.beta, &mut c, UNIT, &mut pack,
->>>>>>> 1f09f2fae73535590af1878263487183924ce3f0
         );
         println!(rt; "sgemm {} {} {}", self.name, r.number(), Bits(c[0]))
     }

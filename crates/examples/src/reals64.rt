@@ -13,10 +13,7 @@ const UNIT: Operand = Operand {
 };
 
 // One element: k depth steps of a and b over old.
-<<<<<<< HEAD
 #[derive(Clone, Copy)]
-=======
->>>>>>> 1f09f2fae73535590af1878263487183924ce3f0
 pub struct Example<'a> {
     pub name: &'a str,
     pub k: usize,
@@ -32,12 +29,8 @@ impl<'a> Example<'a> {
         let mut c = [self.old];
         let mut pack: [f64; 3072] = [0.0; 3072];
         let r = dgemm(
-<<<<<<< HEAD
             1, self.k, 1, self.alpha, self.a, UNIT, self.b, UNIT, self.beta, &mut c, UNIT,
             &mut pack,
-=======
-            1, self.k, 1, self.alpha, self.a, UNIT, self.b, UNIT, self.beta, &mut c, UNIT, &mut pack,
->>>>>>> 1f09f2fae73535590af1878263487183924ce3f0
         );
         println!(rt; "dgemm {} {} {}", self.name, r.number(), Bits(c[0]))
     }

@@ -11,10 +11,7 @@ use layout::need::pack_length;
 use layout::operand::Operand;
 use panel::file::Shape;
 use panel::real64::read_f64;
-<<<<<<< HEAD
 use refusal::Refusal;
-=======
->>>>>>> 1f09f2fae73535590af1878263487183924ce3f0
 use show::{Hundredths, Refused};
 use std::fs::File;
 use std::io;
@@ -56,11 +53,7 @@ fn scored(
     base: usize,
 ) -> Result<(), Refusal> {
     let mut pack = [0.0f64; PACK];
-<<<<<<< HEAD
     gemm(
-=======
-    dgemm(
->>>>>>> 1f09f2fae73535590af1878263487183924ce3f0
         INVERTERS,
         READINGS,
         SCORES,
@@ -85,29 +78,17 @@ fn show_scores(rt: &impl Print, scores: &Scores) -> io::Result<()> {
     Ok(())
 }
 
-<<<<<<< HEAD
 fn show_answer(rt: &impl Print, r: Result<(), Refusal>) -> io::Result<()> {
     match r {
         Ok(()) => println!(rt; "  done"),
         Err(x) => println!(rt; "  {}", Refused(x)),
-=======
-fn show_answer(rt: &impl Print, r: Answer) -> io::Result<()> {
-    match r {
-        Answer::Done => println!(rt; "  done"),
-        Answer::Refused(x) => println!(rt; "  {}", Refused(x)),
->>>>>>> 1f09f2fae73535590af1878263487183924ce3f0
     }
 }
 
 fn show_need(rt: &impl Print) -> io::Result<()> {
     match pack_length(Kind::F64, INVERTERS, READINGS, SCORES) {
-<<<<<<< HEAD
         Err(x) => println!(rt; "{}\n", Refused(x)),
         Ok(x) => println!(rt; "the pack buffer needs {x} elements\n"),
-=======
-        PackLength::Refused(x) => println!(rt; "{}\n", Refused(x)),
-        PackLength::Elements(x) => println!(rt; "the pack buffer needs {x} elements\n"),
->>>>>>> 1f09f2fae73535590af1878263487183924ce3f0
     }
 }
 
@@ -127,20 +108,12 @@ fn show_picks(rt: &impl Print, scores: &Scores) -> io::Result<()> {
 // Reads a file's bytes into numbers, and answers the shape of what these then hold: the file's, or the old one where nothing was stored.
 fn take(rt: &impl Print, bytes: &[u8], numbers: &mut [f64], old: Shape) -> io::Result<Shape> {
     match read_f64(bytes, numbers) {
-<<<<<<< HEAD
         Ok(h) => {
-=======
-        PanelAnswer::Read(h) => {
->>>>>>> 1f09f2fae73535590af1878263487183924ce3f0
             let shape = h.shape;
             println!(rt; "{} rows, {} columns", shape.rows, shape.columns)?;
             Ok(shape)
         }
-<<<<<<< HEAD
         Err(x) => {
-=======
-        PanelAnswer::Refused(x) => {
->>>>>>> 1f09f2fae73535590af1878263487183924ce3f0
             println!(rt; "{}\n  nothing was stored", Refused(x))?;
             Ok(old)
         }
@@ -209,13 +182,9 @@ fn night(
     show_answer(rt, scored(correction, coefficients, 1.0, &mut scores, 1))?;
     println!(rt; "  nothing was stored:")?;
     show_scores(rt, &scores)?;
-<<<<<<< HEAD
     println!(rt;
         "\nSix o'clock: an inverter is flashed where its ready score is above 100; a gap is not"
     )?;
-=======
-    println!(rt; "\nSix o'clock: an inverter is flashed where its ready score is above 100; a gap is not")?;
->>>>>>> 1f09f2fae73535590af1878263487183924ce3f0
     show_picks(rt, &scores)
 }
 
@@ -238,12 +207,8 @@ fn main(rt: HostRuntime) -> io::Result<()> {
     if are_shapes(telemetry, known, late) {
         return night(&rt, &readings, &coefficients, &correction);
     }
-<<<<<<< HEAD
     println!(rt;
         "\nno scores: telemetry and late are to have 4 rows, 3 columns, coefficients 3 rows, 2 columns;"
     )?;
-=======
-    println!(rt; "\nno scores: telemetry and late are to have 4 rows, 3 columns, coefficients 3 rows, 2 columns;")?;
->>>>>>> 1f09f2fae73535590af1878263487183924ce3f0
     println!(rt; "the night's files are in crates/night/data, where ./run runs it")
 }

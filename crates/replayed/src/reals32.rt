@@ -15,7 +15,13 @@ use sgemm::gemm::sgemm;
 use words::{after, word_at};
 
 // Our answer to a call.
-fn answer(call: &[u64], a: &[f32], b: &[f32], c: &mut [f32], pack: &mut [f32]) -> Result<(), Refusal>
+fn answer(
+    call: &[u64],
+    a: &[f32],
+    b: &[f32],
+    c: &mut [f32],
+    pack: &mut [f32],
+) -> Result<(), Refusal>
     ensures { Ran (kind32 (get_or call.now 0 0)) call.now
         a.now b.now c.old c.new pack.old pack.new result }
 {

@@ -16,7 +16,13 @@ use words::{after, word_at};
 use zgemm::gemm::zgemm;
 
 // Our answer to a call.
-fn answer(call: &[u64], a: &[f64], b: &[f64], c: &mut [f64], pack: &mut [f64]) -> Result<(), Refusal>
+fn answer(
+    call: &[u64],
+    a: &[f64],
+    b: &[f64],
+    c: &mut [f64],
+    pack: &mut [f64],
+) -> Result<(), Refusal>
     ensures { Ran (kind64 (get_or call.now 0 0)) call.now
         a.now b.now c.old c.new pack.old pack.new result }
 {
