@@ -1,10 +1,10 @@
 // Derived from crates/examples/src/complex32.rt by tools/derive: edit that.
 // P11 and P12 in complex f64.
+use cgemm::gemm::cgemm;
 use element::complex64::Complex64;
 use layout::operand::Operand;
 use show::Bits;
 use std::io;
-use zgemm::gemm::zgemm;
 
 // (1 + 2i) times (3 + 4i) over k depth steps, over old.
 fn one(
@@ -24,8 +24,8 @@ fn one(
         rs: 1,
         cs: 1,
     };
-    let r = zgemm(1, k, 1, alpha, &a, o, &b, o, beta, &mut c, o, &mut pack);
-    println!(rt; "zgemm {name} {} {} {}", r.number(), Bits(c[0]), Bits(c[1]))
+    let r = cgemm(1, k, 1, alpha, &a, o, &b, o, beta, &mut c, o, &mut pack);
+    println!(rt; "cgemm {name} {} {} {}", r.number(), Bits(c[0]), Bits(c[1]))
 }
 
 pub fn both(rt: &impl Print) -> io::Result<()> {

@@ -1,8 +1,8 @@
 // Derived from crates/examples/src/reals32.rt by tools/derive: edit that.
 // What both real kinds share, in f64: P1 to P5, P10, and three elements that lie downwards.
-use dgemm::gemm::dgemm;
 use layout::operand::Operand;
 use refusal::answer_number;
+use sgemm::gemm::sgemm;
 use show::Bits;
 use std::io;
 
@@ -28,11 +28,11 @@ impl<'a> Example<'a> {
     pub fn run(&self, rt: &impl Print) -> io::Result<()> {
         let mut c = [self.old];
         let mut pack: [f64; 3072] = [0.0; 3072];
-        let r = dgemm(
+        let r = sgemm(
             1, self.k, 1, self.alpha, self.a, UNIT, self.b, UNIT, self.beta, &mut c, UNIT,
             &mut pack,
         );
-        println!(rt; "dgemm {} {} {}", self.name, r.number(), Bits(c[0]))
+        println!(rt; "sgemm {} {} {}", self.name, r.number(), Bits(c[0]))
     }
 }
 
@@ -83,7 +83,7 @@ pub fn downwards(rt: &impl Print, base: usize) -> io::Result<()> {
         rs: -1,
         ..UNIT
     };
-    let r = dgemm(3, 1, 1, 1.0, &a, UNIT, &b, UNIT, 0.0, &mut c, lc, &mut pack);
+    let r = sgemm(3, 1, 1, 1.0, &a, UNIT, &b, UNIT, 0.0, &mut c, lc, &mut pack);
     let [x, y, z] = c.map(Bits);
-    println!(rt; "dgemm downwards {} {x} {y} {z}", r.number())
+    println!(rt; "sgemm downwards {} {x} {y} {z}", r.number())
 }

@@ -1,2 +1,6 @@
 pub mod Answers
 pub mod SameAnswers
+pub mod Real32
+pub mod Real64
+pub mod Complex32
+pub mod Complex64

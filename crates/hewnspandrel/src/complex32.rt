@@ -1,29 +1,30 @@
 // Derived from crates/hewnspandrel/src/real32.rt by tools/derive: edit that.
-// The functions of the kind Complex32, over slices of f32.
+// The functions of the kind Complex32, over slices of f32. The C interface needs a function of its own name for each kind.
 ghost use Rattle.element.specs.declared.kind.Kind.TheVariants.{C32};
-ghost use Rattle.element.specs.Complex32.{number};
 ghost use Rattle.call.specs.Call.{call_of};
 ghost use Rattle.hewnspandrel.specs.Answers.{Answered, Asked};
+ghost use Rattle.hewnspandrel.specs.Complex32.{number};
 
 use crate::length::{Length, length_of};
-use cgemm::gemm::cgemm;
-use element::complex32::Number;
+use crate::numbers::Complex32;
+use element::kind;
 use element::kind::Kind;
+use gemm::gemm::gemm;
 use layout::operand::Operand;
 use refusal::answer_number;
 
-// cgemm, answered by its number.
+// gemm, answered by its number.
 #[unsafe(no_mangle)]
 pub extern "C" fn hewn_cgemm(
     m: usize,
     k: usize,
     n: usize,
-    alpha: Number,
+    alpha: Complex32,
     a: &[f32],
     la: Operand,
     b: &[f32],
     lb: Operand,
-    beta: Number,
+    beta: Complex32,
     c: &mut [f32],
     lc: Operand,
     pack: &mut [f32],
@@ -31,8 +32,20 @@ pub extern "C" fn hewn_cgemm(
     ensures { Answered (call_of C32 m k n (number alpha) la lb (number beta) lc)
         a.now b.now c.old c.new pack.old pack.new result }
 {
-    let answer = cgemm(m, k, n, alpha, a, la, b, lb, beta, c, lc, pack);
-    answer_number(answer)
+    answer_number(gemm::<kind::Complex32>(
+        m,
+        k,
+        n,
+        alpha.into(),
+        a,
+        la,
+        b,
+        lb,
+        beta.into(),
+        c,
+        lc,
+        pack,
+    ))
 }
 
 // How long must the pack buffer be?

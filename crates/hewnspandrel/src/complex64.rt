@@ -1,29 +1,30 @@
 // Derived from crates/hewnspandrel/src/real32.rt by tools/derive: edit that.
-// The functions of the kind Complex64, over slices of f64.
+// The functions of the kind Complex64, over slices of f64. The C interface needs a function of its own name for each kind.
 ghost use Rattle.element.specs.declared.kind.Kind.TheVariants.{C64};
-ghost use Rattle.element.specs.Complex64.{number};
 ghost use Rattle.call.specs.Call.{call_of};
 ghost use Rattle.hewnspandrel.specs.Answers.{Answered, Asked};
+ghost use Rattle.hewnspandrel.specs.Complex64.{number};
 
 use crate::length::{Length, length_of};
-use element::complex64::Number;
+use crate::numbers::Complex64;
+use element::kind;
 use element::kind::Kind;
+use gemm::gemm::gemm;
 use layout::operand::Operand;
 use refusal::answer_number;
-use zgemm::gemm::zgemm;
 
-// zgemm, answered by its number.
+// gemm, answered by its number.
 #[unsafe(no_mangle)]
 pub extern "C" fn hewn_zgemm(
     m: usize,
     k: usize,
     n: usize,
-    alpha: Number,
+    alpha: Complex64,
     a: &[f64],
     la: Operand,
     b: &[f64],
     lb: Operand,
-    beta: Number,
+    beta: Complex64,
     c: &mut [f64],
     lc: Operand,
     pack: &mut [f64],
@@ -31,8 +32,20 @@ pub extern "C" fn hewn_zgemm(
     ensures { Answered (call_of C64 m k n (number alpha) la lb (number beta) lc)
         a.now b.now c.old c.new pack.old pack.new result }
 {
-    let answer = zgemm(m, k, n, alpha, a, la, b, lb, beta, c, lc, pack);
-    answer_number(answer)
+    answer_number(gemm::<kind::Complex64>(
+        m,
+        k,
+        n,
+        alpha.into(),
+        a,
+        la,
+        b,
+        lb,
+        beta.into(),
+        c,
+        lc,
+        pack,
+    ))
 }
 
 // How long must the pack buffer be?

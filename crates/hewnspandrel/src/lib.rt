@@ -7,6 +7,7 @@ pub mod complex64;
 pub mod head;
 pub mod interface;
 pub mod length;
+pub mod numbers;
 pub mod panel32;
 pub mod panel64;
 pub mod real32;

@@ -1,28 +1,29 @@
-// The functions of the kind Real32, over slices of f32.
+// The functions of the kind Real32, over slices of f32. The C interface needs a function of its own name for each kind.
 ghost use Rattle.element.specs.declared.kind.Kind.TheVariants.{F32};
-ghost use Rattle.element.specs.Real32.{number};
 ghost use Rattle.call.specs.Call.{call_of};
 ghost use Rattle.hewnspandrel.specs.Answers.{Answered, Asked};
+ghost use Rattle.hewnspandrel.specs.Real32.{number};
 
 use crate::length::{Length, length_of};
+use crate::numbers::Real32;
+use element::kind;
 use element::kind::Kind;
-use element::real32::Number;
+use gemm::gemm::gemm;
 use layout::operand::Operand;
 use refusal::answer_number;
-use sgemm::gemm::sgemm;
 
-// sgemm, answered by its number.
+// gemm, answered by its number.
 #[unsafe(no_mangle)]
 pub extern "C" fn hewn_sgemm(
     m: usize,
     k: usize,
     n: usize,
-    alpha: Number,
+    alpha: Real32,
     a: &[f32],
     la: Operand,
     b: &[f32],
     lb: Operand,
-    beta: Number,
+    beta: Real32,
     c: &mut [f32],
     lc: Operand,
     pack: &mut [f32],
@@ -30,8 +31,20 @@ pub extern "C" fn hewn_sgemm(
     ensures { Answered (call_of F32 m k n (number alpha) la lb (number beta) lc)
         a.now b.now c.old c.new pack.old pack.new result }
 {
-    let answer = sgemm(m, k, n, alpha, a, la, b, lb, beta, c, lc, pack);
-    answer_number(answer)
+    answer_number(gemm::<kind::Real32>(
+        m,
+        k,
+        n,
+        alpha.into(),
+        a,
+        la,
+        b,
+        lb,
+        beta.into(),
+        c,
+        lc,
+        pack,
+    ))
 }
 
 // How long must the pack buffer be?

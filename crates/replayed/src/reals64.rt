@@ -1,19 +1,19 @@
 // Derived from crates/replayed/src/reals32.rt by tools/derive: edit that.
-// The calls over f64: dgemm and zgemm.
+// The calls over f64: sgemm and cgemm.
 ghost use Rattle.std.specs.Float.{binary64};
 ghost use Rattle.std.specs.Prelude.{length, get_or};
 ghost use Rattle.call.specs.Verdict.{lengths};
 ghost use Rattle.replayed.specs.Replayed.{kind64, lengths_of, pack_of, Ran, Compared, Replayed};
 
-use dgemm::gemm::dgemm;
+use cgemm::gemm::cgemm;
 use floats::floats32::{complex_of, fill, first_difference};
 use refusal::{Refusal, answer_number};
 use sample::calls::{
     A_LENGTH, ALPHA, B_LENGTH, BETA, C_LENGTH, Difference, FLOATS, KIND, PACK_LENGTH, length_at,
     matrices_of,
 };
+use sgemm::gemm::sgemm;
 use words::{after, word_at};
-use zgemm::gemm::zgemm;
 
 // Our answer to a call.
 fn answer(
@@ -30,11 +30,11 @@ fn answer(
     let alpha = complex_of(after(call, ALPHA));
     let beta = complex_of(after(call, BETA));
     if word_at(call, KIND) < 2 {
-        return dgemm(
+        return sgemm(
             q.m, q.k, q.n, alpha.re, a, q.a, b, q.b, beta.re, c, q.c, pack,
         );
     }
-    zgemm(q.m, q.k, q.n, alpha, a, q.a, b, q.b, beta, c, q.c, pack)
+    cgemm(q.m, q.k, q.n, alpha, a, q.a, b, q.b, beta, c, q.c, pack)
 }
 
 // How the number of our answer and C's slice after the call compare with what is recorded.

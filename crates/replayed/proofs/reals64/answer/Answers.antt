@@ -18,11 +18,11 @@ returns-then-word_at-lt2 c =
     let beta : number c.complex_of-beta.result ≡ complex_of binary64 (drop 19 w) =
     c.complex_of-beta.ensures ∙ ap (complex_of binary64) c.after-2.ensures in
     ran_by (kind_below F64 C64 (get_or w 0 0) (omega arith)) w c.matrices_of-q.ensures
-    (ap (λ (z : Complex). z.re) alpha) (ap (λ (z : Complex). z.re) beta) c.dgemm.ensures
+    (ap (λ (z : Complex). z.re) alpha) (ap (λ (z : Complex). z.re) beta) c.sgemm.ensures
 
 pub returns : goal.returns
 returns c =
     let w = c.args.call.now in
     ran_by (kind_from F64 C64 (get_or w 0 0) (omega arith)) w c.matrices_of-q.ensures
     (c.complex_of-alpha.ensures ∙ ap (complex_of binary64) c.after.ensures)
-    (c.complex_of-beta.ensures ∙ ap (complex_of binary64) c.after-2.ensures) c.zgemm.ensures
+    (c.complex_of-beta.ensures ∙ ap (complex_of binary64) c.after-2.ensures) c.cgemm.ensures
