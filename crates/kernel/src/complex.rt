@@ -10,8 +10,8 @@ use crate::pair::Paired;
 use crate::reads::reals_into;
 use element::real::Real;
 
-// What one depth step reads: reals and imaginaries of A's lanes, then of B's. It is passed on by its fields, and not whole: a call owes that
-// a struct of arrays of a type parameter is smaller than 2^63 bytes, which no clause can say.
+// What one depth step reads: reals and imaginaries of A's lanes, then of B's. It is passed on by its fields, and not whole: a call owes
+// that a struct of arrays of a type parameter is smaller than 2^63 bytes, which no clause can say.
 #[derive(Clone, Copy)]
 struct Parts<R, const MR: usize, const NR: usize> {
     pp: [R; MR],

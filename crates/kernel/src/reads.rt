@@ -1,5 +1,5 @@
-// Reals of a packed panel, one after the other. They are read in place: an array of two f32 that is handed out is moved as one 64-bit integer,
-// and complex f32 then takes an eighth longer.
+// Reals of a packed panel, one after the other. They are read in place: an array of two f32 that is handed out is moved as one 64-bit
+// integer, and complex f32 then takes an eighth longer.
 ghost use Rattle.std.specs.Prelude.{◌≡◌, ◌+◌, ◌≤◌, length, get_or};
 ghost use Rattle.std.specs.Float.{nan};
 ghost use Rattle.loops.specs.Tiles.{line};

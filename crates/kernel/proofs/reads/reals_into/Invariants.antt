@@ -6,4 +6,6 @@ use Rattle.kernel.proofs.reads.reals_into.Given as goal
 
 abbrev pub invariant-loop-i : goal.invariant-loop-i
 invariant-loop-i g l =
-    (length l.x ≡ g.row.N) × Filled g.R.Real.held.none g.row.N l.i (λ k. g.R.Real.held.of (get_or (g.R.Real.floats l.s) (l.first + k) nan)) l.initial.x l.x
+    let held = g.R.Real.held in
+    (length l.x ≡ g.row.N)
+    × Filled held.none g.row.N l.i (λ k. held.of (get_or (g.R.Real.floats l.s) (l.first + k) nan)) l.initial.x l.x
