@@ -7,10 +7,11 @@ ghost use Rattle.loops.specs.Work.{part};
 ghost use Rattle.kernel.specs.Parts.{both};
 
 use crate::pair::Paired;
-use crate::reads::reals_from;
+use crate::reads::reals_into;
+use element::real::Real;
 
-// What one depth step reads: reals and imaginaries of A's lanes, then of B's. It is passed on by its fields: a call that passes the whole
-// of it owes that it is smaller than 2^63 bytes, which no clause can say.
+// What one depth step reads: reals and imaginaries of A's lanes, then of B's. It is passed on by its fields, and not whole: a call owes
+// that a struct of arrays of a type parameter is smaller than 2^63 bytes, which no clause can say.
 #[derive(Clone, Copy)]
 struct Parts<R, const MR: usize, const NR: usize> {
     pp: [R; MR],
@@ -65,12 +66,17 @@ fn next<Z: Paired, const MR: usize, const NR: usize>(
     ensures { result ≡ summed (complex Z.Real.format) Z.held MR NR
         (complex_packing.lane (Z.Real.floats a.now) MR) (complex_packing.lane (Z.Real.floats b.now) NR) (p + 1) }
 {
-    let x = Parts {
-        pp: reals_from(a, p * (MR + MR)),
-        qq: reals_from(a, p * (MR + MR) + MR),
-        rr: reals_from(b, p * (NR + NR)),
-        ss: reals_from(b, p * (NR + NR) + NR),
+    let zero = <Z::Real as Real>::zero();
+    let mut x = Parts {
+        pp: [zero; MR],
+        qq: [zero; MR],
+        rr: [zero; NR],
+        ss: [zero; NR],
     };
+    reals_into(&mut x.pp, a, p * (MR + MR));
+    reals_into(&mut x.qq, a, p * (MR + MR) + MR);
+    reals_into(&mut x.rr, b, p * (NR + NR));
+    reals_into(&mut x.ss, b, p * (NR + NR) + NR);
     step(t, &x.pp, &x.qq, &x.rr, &x.ss)
 }
 

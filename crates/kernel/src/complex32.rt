@@ -23,6 +23,7 @@ const MR: usize = <Complex32 as Element>::TILE_ROWS;
 
 const NR: usize = <Complex32 as Element>::TILE_COLUMNS;
 
+// The method's clauses are its trait's: the check cannot yet give it those that name a supertrait's type.
 impl Kernel for Complex32 {
     fn masked_kernel(
         kc: usize,

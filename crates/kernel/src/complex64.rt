@@ -24,6 +24,7 @@ const MR: usize = <Complex64 as Element>::TILE_ROWS;
 
 const NR: usize = <Complex64 as Element>::TILE_COLUMNS;
 
+// The method's clauses are its trait's: the check cannot yet give it those that name a supertrait's type.
 impl Kernel for Complex64 {
     fn masked_kernel(
         kc: usize,

@@ -1,18 +1,17 @@
-// Reals of a packed panel, one after the other.
+// Reals of a packed panel, one after the other. They are read in place: an array of two f32 that is handed out is moved as one 64-bit
+// integer, and complex f32 then takes an eighth longer.
 ghost use Rattle.std.specs.Prelude.{◌≡◌, ◌+◌, ◌≤◌, length, get_or};
 ghost use Rattle.std.specs.Float.{nan};
 ghost use Rattle.loops.specs.Tiles.{line};
 
 use element::real::Real;
 
-// The N reals from `first` on.
-pub fn reals_from<R: Real, const N: usize>(s: &[R], first: usize) -> [R; N]
+// The N reals from `first` on, into x.
+pub fn reals_into<R: Real, const N: usize>(x: &mut [R; N], s: &[R], first: usize)
     requires { first + N ≤ length s.now }
-    ensures { result ≡ line R.held N (λ i. get_or (R.floats s.now) (first + i) nan) }
+    ensures { x.new ≡ line R.held N (λ i. get_or (R.floats s.now) (first + i) nan) }
 {
-    let mut x = [R::zero(); N];
     for i in 0..N {
         x[i] = s[first + i];
     }
-    x
 }

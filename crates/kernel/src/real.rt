@@ -6,7 +6,7 @@ ghost use Rattle.loops.specs.Panels.{real_packing, padded};
 ghost use Rattle.loops.specs.Tiles.{at, line, lines, cell, stepped, summed};
 ghost use Rattle.loops.specs.Work.{part};
 
-use crate::reads::reals_from;
+use crate::reads::reals_into;
 use element::real::Real;
 
 // One column of the tile with one depth step's products added.
@@ -48,7 +48,11 @@ fn next<R: Real, const MR: usize, const NR: usize>(
     ensures { result ≡ summed (real R.format) R.held MR NR
         (real_packing.lane (R.floats a.now) MR) (real_packing.lane (R.floats b.now) NR) (p + 1) }
 {
-    step(t, reals_from(a, p * MR), reals_from(b, p * NR))
+    let mut x = [R::zero(); MR];
+    let mut y = [R::zero(); NR];
+    reals_into(&mut x, a, p * MR);
+    reals_into(&mut y, b, p * NR);
+    step(t, x, y)
 }
 
 // The columns after the four depth steps from p on, one by one.
@@ -140,6 +144,7 @@ fn times<R: Real, const MR: usize, const NR: usize>(
 }
 
 // Alpha times the product of two packed panels of depth kc in the first rows of the tile, which is an array of rows, and +0 in the others.
+// A row has a number at least: else the tile's room would not bound that of its columns.
 pub fn kernel<R: Real, const MR: usize, const NR: usize>(
     kc: usize,
     alpha: R,

@@ -22,6 +22,7 @@ const MR: usize = <f32 as Element>::TILE_ROWS;
 
 const NR: usize = <f32 as Element>::TILE_COLUMNS;
 
+// The method's clauses are its trait's: the check cannot yet give it those that name a supertrait's type.
 impl Kernel for f32 {
     fn masked_kernel(
         kc: usize,

@@ -13,6 +13,6 @@ returns g c =
     let x = complex_packing.lane (r.floats a.a.now) g.row.MR in
     let y = complex_packing.lane (r.floats a.b.now) g.row.NR in
     summed_more (complex r.format) g.Z.Paired.held g.row.MR g.row.NR x y a.p
-    (both r.held c.reals_from.result c.reals_from-2.result) (both r.held c.reals_from-3.result c.reals_from-4.result) c.requires.t_value
-    (both_line r.held g.row.MR (λ i. x i a.p) c.reals_from.ensures c.reals_from-2.ensures)
-    (both_line r.held g.row.NR (λ j. y j a.p) c.reals_from-3.ensures c.reals_from-4.ensures) c.step.ensures
+    (both r.held c.reals_into.new.x c.reals_into-2.new.x) (both r.held c.reals_into-3.new.x c.reals_into-4.new.x) c.requires.t_value
+    (both_line r.held g.row.MR (λ i. x i a.p) c.reals_into.ensures c.reals_into-2.ensures)
+    (both_line r.held g.row.NR (λ j. y j a.p) c.reals_into-3.ensures c.reals_into-4.ensures) c.step.ensures

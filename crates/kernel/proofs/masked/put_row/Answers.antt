@@ -17,16 +17,19 @@ loop-j-preserved g c =
     let a = c.args in
     let j = c.loop-j.j in
     let kind = g.T.Element.kind in
+    let held = g.T.Element.held in
+    let fate = fate_of held.is a.fate in
     let f : ℕ → ℕ → (arith_of kind).E → (arith_of kind).E =
-    λ i j. put (arith_of kind) (fate_of g.T.Element.held.is a.fate) (at g.T.Element.held a.ab j) in
+    λ i j. put (arith_of kind) fate (at held a.ab j) in
     elim c.if-j-cols.branch [
       | then-j-cols w ↦ (
         c.loop-j.invariant.0,
         rw w.c-is (cell_masked (lawful kind) c.requires.writable f a.i j c.requires.i_lt_rows.0 w.if-j-cols.true c.loop-j.invariant.1
             (agreeing (view_of kind) (index_of a.lc) (λ i k o x. let e : j ≡ k = omega arith in
             let b : j < length a.ab = omega arith in
-            ap (λ (z : g.row.T.Denot). put (arith_of kind) (fate_of g.T.Element.held.is a.fate) (g.T.Element.held.is z) x) (get_or_default a.ab j _ g.T.Element.held.none b)
+            ap (λ (z : g.row.T.Denot). put (arith_of kind) fate (held.is z) x) (get_or_default a.ab j _ held.none b)
             ∙ ap (λ (z : ℕ). f i z x) e) w.put_one.ensures)),
       )
-      | else-j-cols w ↦ let e : min j a.cols ≡ min (j + 1) a.cols = omega arith in (c.loop-j.invariant.0, rw w.c-is (rw e at c.loop-j.invariant.1))
+      | else-j-cols w ↦
+          let e : min j a.cols ≡ min (j + 1) a.cols = omega arith in (c.loop-j.invariant.0, rw w.c-is (rw e at c.loop-j.invariant.1))
     ]

@@ -12,7 +12,7 @@ returns g c =
     let x = real_packing.lane (r.floats c.args.a.now) g.row.MR in
     let y = real_packing.lane (r.floats c.args.b.now) g.row.NR in
     let p = c.args.p in
-    summed_more (real r.format) r.held g.row.MR g.row.NR x y p (at r.held c.reals_from.result) (at r.held c.reals_from-2.result)
-    c.requires.t_value (line_at r.held g.row.MR (λ i. x i p) c.reals_from.ensures)
-    (line_at r.held g.row.NR (λ j. y j p) c.reals_from-2.ensures)
+    summed_more (real r.format) r.held g.row.MR g.row.NR x y p (at r.held c.reals_into.new.x) (at r.held c.reals_into-2.new.x)
+    c.requires.t_value (line_at r.held g.row.MR (λ i. x i p) c.reals_into.ensures)
+    (line_at r.held g.row.NR (λ j. y j p) c.reals_into-2.ensures)
     c.step.ensures

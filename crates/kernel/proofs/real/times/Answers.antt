@@ -10,5 +10,8 @@ pub returns : goal.returns
 returns g c =
     let r = g.R.Real in
     filled_rest _ _ _ _ c.loop-i.i c.loop-i.invariant
-    (λ i l m. rw (le-ltb i c.args.rows (omega arith), lines_of_one r.held (g.met.R.Real.kept c.zero.result) c.zero.ensures g.row.MR g.row.NR)
+    (λ i l m. rw (
+      le-ltb i c.args.rows (omega arith),
+      lines_of_one r.held (g.met.R.Real.kept c.zero.result) c.zero.ensures g.row.MR g.row.NR,
+    )
     (get_or-tab g.row.MR (λ i. line r.held g.row.NR (λ j. (real r.format).nought)) i [] m))

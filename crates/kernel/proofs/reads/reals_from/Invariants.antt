@@ -1,9 +1,0 @@
--- `reals_from` meets its contract: below i the array holds the panel's reals from `first` on. Assumes nothing.
-use Rattle.std.proofs.Common.{◌+◌, get_or}
-use Rattle.std.specs.Float.{nan}
-use Rattle.rules.specs.Lists.{Filled}
-use Rattle.kernel.proofs.reads.reals_from.Given as goal
-
-abbrev pub invariant-loop-i : goal.invariant-loop-i
-invariant-loop-i g l =
-    Filled g.R.Real.held.none g.row.N l.i (λ k. g.R.Real.held.of (get_or (g.R.Real.floats l.s) (l.first + k) nan)) l.initial.x l.x
