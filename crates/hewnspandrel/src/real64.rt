@@ -7,8 +7,7 @@ ghost use Rattle.hewnspandrel.specs.Real64.{number};
 
 use crate::length::{Length, length_of};
 use crate::numbers::Real64;
-use element::kind;
-use element::kind::Kind;
+use element::kind::{self, Kind};
 use gemm::gemm::gemm;
 use layout::operand::Operand;
 use refusal::answer_number;
