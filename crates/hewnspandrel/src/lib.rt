@@ -9,5 +9,6 @@ pub mod interface;
 pub mod length;
 pub mod panel32;
 pub mod panel64;
+pub mod place;
 pub mod real32;
 pub mod real64;
