@@ -10,5 +10,6 @@ pub mod length;
 pub mod numbers;
 pub mod panel32;
 pub mod panel64;
+pub mod place;
 pub mod real32;
 pub mod real64;

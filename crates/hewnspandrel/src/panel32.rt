@@ -1,24 +1,17 @@
-// The functions of panels of f32.
+// The functions of panels of f32. C has no generics, so each real has its own, which tools/derive writes.
 ghost use Rattle.std.specs.Float.{binary32};
 ghost use Rattle.hewnspandrel.specs.Answers.{FileRead, ElementAnswered};
 
 use crate::head::{Head, head_of};
-use panel::real32::{element_at, read_f32};
+use crate::place::{Element, element_or};
+use panel::reader::read;
 
-// 0 and the element, or the refusal's number and a NaN.
-#[repr(C)]
-#[derive(Clone, Copy)]
-pub struct Element {
-    pub answer: u64,
-    pub element: f32,
-}
-
-// read_f32, answered by its number and what the file's head says.
+// `read`, answered by its number and what the file's head says.
 #[unsafe(no_mangle)]
 pub extern "C" fn hewn_read_f32(file: &[u8], numbers: &mut [f32]) -> Head
     ensures { FileRead binary32 file.now numbers.old numbers.new result }
 {
-    head_of(read_f32(file, numbers))
+    head_of(read(file, numbers))
 }
 
 // The element at a place of a panel.
@@ -29,18 +22,9 @@ pub extern "C" fn hewn_panel_element_f32(
     columns: u16,
     row: usize,
     column: usize,
-) -> Element
+) -> Element<f32>
     ensures { ElementAnswered numbers.now (record { rows = rows; columns = columns }) row column
         result.answer result.element }
 {
-    match element_at(numbers, rows, columns, row, column) {
-        Ok(x) => Element {
-            answer: 0,
-            element: x,
-        },
-        Err(x) => Element {
-            answer: x.number(),
-            element: f32::NAN,
-        },
-    }
+    element_or(numbers, rows, columns, row, column, f32::NAN)
 }

@@ -1,25 +1,18 @@
 // Derived from crates/hewnspandrel/src/panel32.rt by tools/derive: edit that.
-// The functions of panels of f64.
+// The functions of panels of f64. C has no generics, so each real has its own, which tools/derive writes.
 ghost use Rattle.std.specs.Float.{binary64};
 ghost use Rattle.hewnspandrel.specs.Answers.{FileRead, ElementAnswered};
 
 use crate::head::{Head, head_of};
-use panel::real64::{element_at, read_f64};
+use crate::place::{Element, element_or};
+use panel::reader::read;
 
-// 0 and the element, or the refusal's number and a NaN.
-#[repr(C)]
-#[derive(Clone, Copy)]
-pub struct Element {
-    pub answer: u64,
-    pub element: f64,
-}
-
-// read_f64, answered by its number and what the file's head says.
+// `read`, answered by its number and what the file's head says.
 #[unsafe(no_mangle)]
 pub extern "C" fn hewn_read_f64(file: &[u8], numbers: &mut [f64]) -> Head
     ensures { FileRead binary64 file.now numbers.old numbers.new result }
 {
-    head_of(read_f64(file, numbers))
+    head_of(read(file, numbers))
 }
 
 // The element at a place of a panel.
@@ -30,18 +23,9 @@ pub extern "C" fn hewn_panel_element_f64(
     columns: u16,
     row: usize,
     column: usize,
-) -> Element
+) -> Element<f64>
     ensures { ElementAnswered numbers.now (record { rows = rows; columns = columns }) row column
         result.answer result.element }
 {
-    match element_at(numbers, rows, columns, row, column) {
-        Ok(x) => Element {
-            answer: 0,
-            element: x,
-        },
-        Err(x) => Element {
-            answer: x.number(),
-            element: f64::NAN,
-        },
-    }
+    element_or(numbers, rows, columns, row, column, f64::NAN)
 }

@@ -5,6 +5,7 @@ use Rattle.std.specs.Float.{Format}
 use Rattle.refusal.specs.declared.Refusal.{Refusal}
 use Rattle.refusal.proofs.NumberLaws.{same_refusal, refusal_not_zero}
 use Rattle.refusal.specs.Order.{done}
+use Rattle.rules.specs.Held.{Held}
 use Rattle.rules.specs.Lists.{splice}
 use Rattle.panel.specs.declared.file.Header.{Header}
 use Rattle.panel.specs.declared.file.Shape.{Shape}
@@ -44,11 +45,12 @@ module _ (f : Format) (s : List ℕ) (D : List Float) where
       let same = one_judged s (byte_of f) (length D) r r' (answer E r p) (answer E' r' q) in
       (same, left E r p ∙ ap leaves same ∙ sym (left E' r' q))
 
--- ANY TWO ANSWERS FOR A PLACE ARE EQUAL
-pub one_element : (numbers : List Float) (s : Shape) (i j : ℕ) (r r' : Result Float Refusal)
-    → ElementOutcome numbers s i j r → ElementOutcome numbers s i j r' → r ≡ r'
-one_element numbers s i j (Ok x) (Ok y) p q = ap (λ (z : Float). Ok z) (p.1 ∙ sym q.1)
-one_element numbers s i j (Ok x) (Err y) p q = absurd (refusal_not_zero y (one_place numbers s i j _ _ q p.0))
-one_element numbers s i j (Err x) (Ok y) p q = absurd (refusal_not_zero x (one_place numbers s i j _ _ p q.0))
-one_element numbers s i j (Err x) (Err y) p q =
+-- ANY TWO ANSWERS FOR A PLACE ARE EQUAL, where a real is known by its float
+pub one_element : {N : Type 0} (h : Held Float N) (kept : (x : N) → h.of (h.is x) ≡ x) (numbers : List Float) (s : Shape) (i j : ℕ)
+    (r r' : Result N Refusal) → ElementOutcome h.is numbers s i j r → ElementOutcome h.is numbers s i j r' → r ≡ r'
+one_element {N} h kept numbers s i j (Ok x) (Ok y) p q =
+    ap (λ (z : N). Ok z) (sym (kept x) ∙ ap h.of (p.1 ∙ sym q.1) ∙ kept y)
+one_element h kept numbers s i j (Ok x) (Err y) p q = absurd (refusal_not_zero y (one_place numbers s i j _ _ q p.0))
+one_element h kept numbers s i j (Err x) (Ok y) p q = absurd (refusal_not_zero x (one_place numbers s i j _ _ p q.0))
+one_element h kept numbers s i j (Err x) (Err y) p q =
     ap (λ (z : Refusal). Err z) (same_refusal x y (one_place numbers s i j _ _ p q))

@@ -27,7 +27,7 @@ ElementSays numbers s i j = First ((s.rows ≤ i) ⊎ ((s.columns ≤ j) ⊎ (le
 abbrev pub in_panel : List Float → Shape → ℕ → ℕ → Float
 in_panel numbers s i j = get_or numbers (i * s.columns + j) nan
 
--- THE PROMISE OF AN ELEMENT: the numbers and the shape of the panel, the place, the answer
-abbrev pub ElementOutcome : List Float → Shape → ℕ → ℕ → Result Float Refusal → Type 0
-ElementOutcome numbers s i j (Ok x) = ElementSays numbers s i j 0 × (x ≡ in_panel numbers s i j)
-ElementOutcome numbers s i j (Err x) = ElementSays numbers s i j (number_of x)
+-- THE PROMISE OF AN ELEMENT: how a real is read as a float, the numbers and the shape of the panel, the place, the answer
+abbrev pub ElementOutcome : {N : Type 0} → (N → Float) → List Float → Shape → ℕ → ℕ → Result N Refusal → Type 0
+ElementOutcome is numbers s i j (Ok x) = ElementSays numbers s i j 0 × (is x ≡ in_panel numbers s i j)
+ElementOutcome is numbers s i j (Err x) = ElementSays numbers s i j (number_of x)

@@ -8,17 +8,21 @@ ghost use Rattle.panel.specs.File.{mark, format_of_byte, width_of, head_length, 
 ghost use Rattle.panel.specs.Heads.{HeaderOr};
 
 use crate::file::{Header, Shape};
+use crate::stored::Stored;
 use refusal::Refusal;
 use words::number_at;
 
 // How many bytes stand before the elements.
 pub const HEAD: usize = 10;
 
-// How many bytes an element has.
+// How many bytes an element has, of the kind that a byte names.
 fn width_of(kind: u8) -> usize
     ensures { (result ≡ width_of (format_of_byte kind)) × (result ≤ 8) }
 {
-    if kind == 2 { 8 } else { 4 }
+    if kind == <f64 as Stored>::KIND {
+        return <f64 as Stored>::WIDTH;
+    }
+    <f32 as Stored>::WIDTH
 }
 
 // The 16-bit number at an index.
@@ -73,7 +77,7 @@ fn judge_body(file: &[u8], shape: Shape, kind: u8, room: usize) -> Result<(), Re
     Ok(())
 }
 
-// 21 to 26, or the header.
+// 21 to 26, or the header. The kind stays a byte, no type: `HeaderOr` is promised of any byte that is asked for, also of one that is no kind.
 pub fn judge(file: &[u8], kind: u8, room: usize) -> Result<Header, Refusal>
     ensures { HeaderOr (HeadThen file.now (BodyThen file.now kind room done)) file.now result }
 {

@@ -3,5 +3,6 @@
 
 pub mod file;
 pub mod head;
-pub mod real32;
-pub mod real64;
+pub mod panels;
+pub mod reader;
+pub mod stored;

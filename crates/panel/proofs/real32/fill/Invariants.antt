@@ -1,9 +1,0 @@
--- `panel::real32::fill` meets its contract: the numbers before `i` are filled, the others as they were. Assumes nothing.
-use Rattle.std.proofs.Common.{length}
-use Rattle.std.specs.Float.{nan, binary32}
-use Rattle.rules.specs.Lists.{Filled}
-use Rattle.panel.specs.File.{element_in}
-use Rattle.panel.proofs.real32.fill.Given as goal
-
-abbrev pub invariant-loop-i : goal.invariant-loop-i
-invariant-loop-i l = Filled nan (length l.initial.numbers) l.i (element_in binary32 l.file) l.initial.numbers l.numbers
