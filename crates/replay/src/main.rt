@@ -1,14 +1,12 @@
 // Replays the calls of the file sample.words through our entry points, and says which disagree with what the Rust crate did.
 #![tactic(auto)]
 
-ghost use Rattle.std.specs.Prelude.{◌≡◌, get_or};
+ghost use Rattle.std.specs.Prelude.{◌≡◌};
 ghost use Rattle.layout.specs.Operands.{Tells};
-ghost use Rattle.sample.specs.Calls.{word_of};
-ghost use Rattle.replayed.specs.Replayed.{pack_of, lengths_of, Replayed};
 ghost use Rattle.replay.specs.File.{ContentsAre, Agreeing, Counted};
 
 use element::kind::Kind;
-use replayed::{reals32, reals64};
+use replayed::replay;
 use sample::calls::{Calls, Difference, KIND, word_of};
 use std::fs::File;
 use std::io::Read;
@@ -55,17 +53,6 @@ fn report(rt: &impl Print, number: usize, found: Result<(), Difference>) -> bool
     };
     let _written = println!(rt; "call {number} disagrees: {difference}");
     false
-}
-
-// What a call of a kind comes to.
-fn replay(kind: Kind, call: &[u64]) -> Result<(), Difference>
-    requires { get_or call.now 0 0 ≡ word_of kind }
-    ensures { Replayed kind call.now (pack_of call.now) (lengths_of call.now) result }
-{
-    match kind {
-        Kind::F32 | Kind::C32 => reals32::replay(call),
-        Kind::F64 | Kind::C64 => reals64::replay(call),
-    }
 }
 
 // Is a call of the kind, and does it agree? Where it disagrees, it is reported under its number.

@@ -1,45 +1,21 @@
 -- What running a recorded call and comparing it come to, for every kind. Assumes nothing.
-use Rattle.std.specs.Prelude.{ℕ, ◌<◌, ◌≤◌, ◌≡◌, refl, Bool, true, false, cond, List, ltb, Float, length, get_or, take, drop, replicate}
+use Rattle.std.specs.Prelude.{ℕ, ◌<◌, ◌≤◌, ◌≡◌, List, Float, length, get_or, take, drop, replicate}
 use Rattle.std.specs.Prelude.{Result, Ok, Err}
-use Rattle.std.proofs.Common.{sym, ap, ◌∙◌, subst, arith, lt-ltb, le-ltb, length-take-le}
-use Rattle.std.specs.Float.{Format, binary32, binary64}
+use Rattle.std.proofs.Common.{sym, ap, ◌∙◌, subst, arith, length-take-le}
+use Rattle.std.specs.Float.{Format}
 use Rattle.std.proofs.lemmas.List.{length-replicate}
 use Rattle.refusal.specs.declared.Refusal.{Refusal}
 use Rattle.refusal.specs.Numbers.{answer_number}
 use Rattle.element.specs.Kinds.{arith_of}
 use Rattle.element.specs.declared.kind.Kind.{Kind}
-use Rattle.element.specs.declared.kind.Kind.TheVariants.{F32, F64, C32, C64}
 use Rattle.floats.specs.Floats.{floats_of, FirstDifference}
 use Rattle.call.specs.declared.judge.Lengths.{Lengths}
 use Rattle.call.specs.declared.judge.Matrices.{Matrices}
 use Rattle.call.specs.Call.{Call}
-use Rattle.call.specs.Verdict.{lengths}
 use Rattle.call.specs.Outcome.{Outcome}
 use Rattle.sample.specs.declared.calls.Difference.{Difference}
 use Rattle.sample.specs.Calls.{matrices_of}
-use Rattle.replayed.specs.Replayed.{format_of, kind32, kind64, scalar_at, recorded, words_a, words_b, words_c, Ran, Compared, Replayed}
-
--- ---- one width, both of its kinds
-
-pub format32 : (n : ℕ) → format_of (kind32 n) ≡ binary32
-format32 n = go (ltb n 2)
-  where
-    go : (b : Bool) → format_of (cond b F32 C32) ≡ binary32
-    go true = refl
-    go false = refl
-
-pub format64 : (n : ℕ) → format_of (kind64 n) ≡ binary64
-format64 n = go (ltb n 2)
-  where
-    go : (b : Bool) → format_of (cond b F64 C64) ≡ binary64
-    go true = refl
-    go false = refl
-
-pub kind_below : (x y : Kind) (n : ℕ) → n < 2 → x ≡ cond (ltb n 2) x y
-kind_below x y n h = ap (λ (b : Bool). cond b x y) (sym (lt-ltb n 2 h))
-
-pub kind_from : (x y : Kind) (n : ℕ) → 2 ≤ n → y ≡ cond (ltb n 2) x y
-kind_from x y n h = ap (λ (b : Bool). cond b x y) (sym (le-ltb n 2 h))
+use Rattle.replayed.specs.Replayed.{format_of, scalar_at, recorded, words_a, words_b, words_c, Ran, Compared, Replayed}
 
 -- the entry point of k was handed the call that the words hold, which is of this kind
 pub ran_by : {k kind : Kind} → k ≡ kind → (w : List ℕ) {q : Matrices} {alpha beta : (arith_of k).E} {A B C D P Q : List Float}
@@ -74,28 +50,27 @@ replayed_over {k} {w} {p} {p'} {n} {n'} {o} e f run =
 
 -- ---- the slices were filled from the words, one behind the other, and the call was run and compared
 
-module _ {kind : Kind} {f : Format} (k : format_of kind ≡ f) (w : List ℕ) (A B C : List Float)
-    {A' B' C' D P Q : List Float} {wa wb wc rest : List ℕ}
+module _ {kind : Kind} {f : Format} (k : format_of kind ≡ f) (w : List ℕ) (n : Lengths)
+    {A B C D P Q : List Float} {wa wb wc rest : List ℕ}
     (from : wa ≡ words_a w)
-    (a : (A' ≡ floats_of f (length A) wa) × (wb ≡ drop (length A) wa))
-    (b : (B' ≡ floats_of f (length B) wb) × (wc ≡ drop (length B) wb))
-    (c : (C' ≡ floats_of f (length C) wc) × (rest ≡ drop (length C) wc)) where
-  pub replayed_by : {r : Result Unit Refusal} {number : ℕ} {o : Result Unit Difference} → Ran kind w A' B' C' D P Q r → number ≡ answer_number r
-      → Compared f rest number D o → Replayed kind w (length P) (lengths A B C) o
-  replayed_by {r} {number} {o} run is seen =
-      let n = lengths A B C in
-      let wb' : wb ≡ words_b n w = a.1 ∙ ap (drop (length A)) from in
-      let wc' : wc ≡ words_c n w = b.1 ∙ ap (drop (length B)) wb' in
-      let rest' : rest ≡ recorded n w = c.1 ∙ ap (drop (length C)) wc' in
-      let A-is : A' ≡ floats_of (format_of kind) (length A) (words_a w) = a.0 ∙ (λ i. floats_of (sym k i) (length A) (from i)) in
-      let B-is : B' ≡ floats_of (format_of kind) (length B) (words_b n w) = b.0 ∙ (λ i. floats_of (sym k i) (length B) (wb' i)) in
-      let C-is : C' ≡ floats_of (format_of kind) (length C) (words_c n w) = c.0 ∙ (λ i. floats_of (sym k i) (length C) (wc' i)) in
+    (a : (A ≡ floats_of f n.a wa) × (wb ≡ drop n.a wa))
+    (b : (B ≡ floats_of f n.b wb) × (wc ≡ drop n.b wb))
+    (c : (C ≡ floats_of f n.c wc) × (rest ≡ drop n.c wc)) where
+  pub replayed_by : {r : Result Unit Refusal} {number pack : ℕ} {o : Result Unit Difference} → length P ≡ pack → Ran kind w A B C D P Q r
+      → number ≡ answer_number r → Compared f rest number D o → Replayed kind w pack n o
+  replayed_by {r} {number} {pack} {o} long run is seen =
+      let wb' : wb ≡ words_b n w = a.1 ∙ ap (drop n.a) from in
+      let wc' : wc ≡ words_c n w = b.1 ∙ ap (drop n.b) wb' in
+      let rest' : rest ≡ recorded n w = c.1 ∙ ap (drop n.c) wc' in
+      let A-is : A ≡ floats_of (format_of kind) n.a (words_a w) = a.0 ∙ (λ i. floats_of (sym k i) n.a (from i)) in
+      let B-is : B ≡ floats_of (format_of kind) n.b (words_b n w) = b.0 ∙ (λ i. floats_of (sym k i) n.b (wb' i)) in
+      let C-is : C ≡ floats_of (format_of kind) n.c (words_c n w) = c.0 ∙ (λ i. floats_of (sym k i) n.c (wc' i)) in
       record {
         D = D;
         P = P;
         Q = Q;
         answer = r;
-        long = refl;
+        long = long;
         ran = coe 0 1 (i. Ran kind w (A-is i) (B-is i) (C-is i) D P Q r) run;
         compared = coe 0 1 (i. Compared (sym k i) (rest' i) (is i) D o) seen;
       }

@@ -1,5 +1,5 @@
 -- What a recorded call comes to when it is run again. Definitions only.
-use Rattle.std.specs.Prelude.{ℕ, ◌%◌, ◌<◌, ◌≡◌, cond, List, ltb, eqb, Float, length, get_or, drop, Result, Ok, Err}
+use Rattle.std.specs.Prelude.{ℕ, ◌<◌, ◌≡◌, List, Float, length, get_or, drop, Result, Ok, Err}
 use Rattle.std.specs.Float.{nan, Format, binary32, binary64}
 use Rattle.refusal.specs.declared.Refusal.{Refusal}
 use Rattle.refusal.specs.Numbers.{answer_number}
@@ -12,16 +12,6 @@ use Rattle.call.specs.Call.{Call}
 use Rattle.call.specs.Outcome.{Outcome}
 use Rattle.sample.specs.declared.calls.Difference.{Difference}
 use Rattle.sample.specs.Calls.{matrices_of, length_at}
-
--- a call's kind by its number: even numbers are over f32 and odd ones over f64, 0 and 1 real and the others complex
-abbrev pub kind32 : ℕ → Kind
-kind32 n = cond (ltb n 2) F32 C32
-
-abbrev pub kind64 : ℕ → Kind
-kind64 n = cond (ltb n 2) F64 C64
-
-abbrev pub kind_of : ℕ → Kind
-kind_of n = cond (eqb (n % 2) 0) (kind32 n) (kind64 n)
 
 -- the format of a kind's floats
 abbrev pub format_of : Kind → Format
