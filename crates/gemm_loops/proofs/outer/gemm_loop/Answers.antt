@@ -24,7 +24,7 @@ rows g c =
     let side : c.TILE_ROWS.result ≡ (tiling_of g.T.Element.kind).mr = c.TILE_ROWS.ensures ∙ sym k.sides.0 in
     let some : 0 < c.TILE_ROWS.result = omega (arith, side, (kind_sides g.T.Element.kind).0) in
     let up : c.next_multiple_of-rows.result ≡ round_up c.min.result c.TILE_ROWS.result =
-        multiple_up _ c.TILE_ROWS.result _ some e.lower_bound e.upper_bound e.multiple in
+    multiple_up _ c.TILE_ROWS.result _ some e.lower_bound e.upper_bound e.multiple in
     rw (c.min.ensures, c.ROW_CHUNK.ensures ∙ sym k.rows, side) at up
 
 reals : (g : Over) (c : After-REALS g) → c.next_multiple_of-rows.result * c.REALS.result
