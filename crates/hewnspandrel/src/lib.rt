@@ -9,6 +9,5 @@ pub mod interface;
 pub mod length;
 pub mod panel32;
 pub mod panel64;
-pub mod place;
 pub mod real32;
 pub mod real64;
