@@ -10,6 +10,5 @@ pub mod length;
 pub mod numbers;
 pub mod panel32;
 pub mod panel64;
-pub mod place;
 pub mod real32;
 pub mod real64;

@@ -1,10 +1,18 @@
-// The functions of panels of f32. C has no generics, so each real has its own, which tools/derive writes.
+// The functions of panels of f32: an export has no type parameter, nor has a struct in its signature, so each real has its own (tools/derive).
 ghost use Rattle.std.specs.Float.{binary32};
 ghost use Rattle.hewnspandrel.specs.Answers.{FileRead, ElementAnswered};
 
 use crate::head::{Head, head_of};
-use crate::place::{Element, element_or};
+use panel::panels::element_at;
 use panel::reader::read;
+
+// 0 and the element, or the refusal's number and a NaN.
+#[repr(C)]
+#[derive(Clone, Copy)]
+pub struct Element {
+    pub answer: u64,
+    pub element: f32,
+}
 
 // `read`, answered by its number and what the file's head says.
 #[unsafe(no_mangle)]
@@ -15,6 +23,7 @@ pub extern "C" fn hewn_read_f32(file: &[u8], numbers: &mut [f32]) -> Head
 }
 
 // The element at a place of a panel.
+#[tactic(auto, using(crate::proofs::PlaceLaws::no_element, crate::proofs::PlaceLaws::is_nan))]
 #[unsafe(no_mangle)]
 pub extern "C" fn hewn_panel_element_f32(
     numbers: &[f32],
@@ -22,9 +31,18 @@ pub extern "C" fn hewn_panel_element_f32(
     columns: u16,
     row: usize,
     column: usize,
-) -> Element<f32>
+) -> Element
     ensures { ElementAnswered numbers.now (record { rows = rows; columns = columns }) row column
         result.answer result.element }
 {
-    element_or(numbers, rows, columns, row, column, f32::NAN)
+    match element_at(numbers, rows, columns, row, column) {
+        Ok(x) => Element {
+            answer: 0,
+            element: x,
+        },
+        Err(x) => Element {
+            answer: x.number(),
+            element: f32::NAN,
+        },
+    }
 }
