@@ -1,5 +1,6 @@
 -- What running a recorded call and comparing it come to, for every kind. Assumes nothing.
-use Rattle.std.specs.Prelude.{ℕ, ◌<◌, ◌≤◌, ◌≡◌, refl, Bool, true, false, cond, List, ltb, Float, length, get_or, take, drop, replicate, Result}
+use Rattle.std.specs.Prelude.{ℕ, ◌<◌, ◌≤◌, ◌≡◌, refl, Bool, true, false, cond, ltb, Result}
+use Rattle.std.specs.Prelude.{List, Float, length, get_or, take, drop, replicate}
 use Rattle.std.proofs.Common.{sym, ap, ◌∙◌, subst, arith, lt-ltb, le-ltb, length-take-le}
 use Rattle.std.specs.Float.{Format, binary32, binary64}
 use Rattle.std.proofs.lemmas.List.{length-replicate}

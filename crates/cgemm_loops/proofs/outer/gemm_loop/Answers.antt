@@ -17,7 +17,8 @@ asize_is : (c : After-min) → let a = c.args in
 asize_is c =
     let rows : c.next_multiple_of-rows.result ≡ round_up (min c.args.m tiling.mc) tiling.mr =
     let e = c.next_multiple_of-rows.ensures in
-    multiple_up _ tiling.mr _ (omega arith) e.lower_bound e.upper_bound e.multiple ∙ ap (λ (z : ℕ). round_up z tiling.mr) c.min-longest.ensures in
+    multiple_up _ tiling.mr _ (omega arith) e.lower_bound e.upper_bound e.multiple
+    ∙ ap (λ (z : ℕ). round_up z tiling.mr) c.min-longest.ensures in
     λ i. c.min.ensures i * (rows i * per_element kind)
 
 -- chunk j is one of them, and begins in B and in C
