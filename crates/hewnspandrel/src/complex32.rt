@@ -5,10 +5,11 @@ ghost use Rattle.element.specs.Complex32.{number};
 ghost use Rattle.call.specs.Call.{call_of};
 ghost use Rattle.hewnspandrel.specs.Answers.{Answered, Asked};
 
-use crate::length::{Length, length_of};
+use crate::length::Length;
 use cgemm::gemm::cgemm;
 use element::complex32::Number;
 use element::kind::Kind;
+use layout::need::pack_length;
 use layout::operand::Operand;
 use refusal::answer_number;
 
@@ -40,5 +41,5 @@ pub extern "C" fn hewn_cgemm(
 pub extern "C" fn hewn_cgemm_need(m: usize, k: usize, n: usize) -> Length
     ensures { Asked C32 m k n result }
 {
-    length_of(Kind::C32, m, k, n)
+    Length::from(pack_length(Kind::C32, m, k, n))
 }

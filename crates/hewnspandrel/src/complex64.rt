@@ -5,9 +5,10 @@ ghost use Rattle.element.specs.Complex64.{number};
 ghost use Rattle.call.specs.Call.{call_of};
 ghost use Rattle.hewnspandrel.specs.Answers.{Answered, Asked};
 
-use crate::length::{Length, length_of};
+use crate::length::Length;
 use element::complex64::Number;
 use element::kind::Kind;
+use layout::need::pack_length;
 use layout::operand::Operand;
 use refusal::answer_number;
 use zgemm::gemm::zgemm;
@@ -40,5 +41,5 @@ pub extern "C" fn hewn_zgemm(
 pub extern "C" fn hewn_zgemm_need(m: usize, k: usize, n: usize) -> Length
     ensures { Asked C64 m k n result }
 {
-    length_of(Kind::C64, m, k, n)
+    Length::from(pack_length(Kind::C64, m, k, n))
 }

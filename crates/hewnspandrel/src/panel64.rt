@@ -3,7 +3,7 @@
 ghost use Rattle.std.specs.Float.{binary64};
 ghost use Rattle.hewnspandrel.specs.Answers.{FileRead, ElementAnswered};
 
-use crate::head::{Head, head_of};
+use crate::head::Head;
 use panel::real64::{element_at, read_f64};
 
 // 0 and the element, or the refusal's number and a NaN.
@@ -19,7 +19,7 @@ pub struct Element {
 pub extern "C" fn hewn_read_f64(file: &[u8], numbers: &mut [f64]) -> Head
     ensures { FileRead binary64 file.now numbers.old numbers.new result }
 {
-    head_of(read_f64(file, numbers))
+    Head::from(read_f64(file, numbers))
 }
 
 // The element at a place of a panel.

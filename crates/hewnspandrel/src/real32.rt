@@ -4,9 +4,10 @@ ghost use Rattle.element.specs.Real32.{number};
 ghost use Rattle.call.specs.Call.{call_of};
 ghost use Rattle.hewnspandrel.specs.Answers.{Answered, Asked};
 
-use crate::length::{Length, length_of};
+use crate::length::Length;
 use element::kind::Kind;
 use element::real32::Number;
+use layout::need::pack_length;
 use layout::operand::Operand;
 use refusal::answer_number;
 use sgemm::gemm::sgemm;
@@ -39,5 +40,5 @@ pub extern "C" fn hewn_sgemm(
 pub extern "C" fn hewn_sgemm_need(m: usize, k: usize, n: usize) -> Length
     ensures { Asked F32 m k n result }
 {
-    length_of(Kind::F32, m, k, n)
+    Length::from(pack_length(Kind::F32, m, k, n))
 }

@@ -5,10 +5,11 @@ ghost use Rattle.element.specs.Real64.{number};
 ghost use Rattle.call.specs.Call.{call_of};
 ghost use Rattle.hewnspandrel.specs.Answers.{Answered, Asked};
 
-use crate::length::{Length, length_of};
+use crate::length::Length;
 use dgemm::gemm::dgemm;
 use element::kind::Kind;
 use element::real64::Number;
+use layout::need::pack_length;
 use layout::operand::Operand;
 use refusal::answer_number;
 
@@ -40,5 +41,5 @@ pub extern "C" fn hewn_dgemm(
 pub extern "C" fn hewn_dgemm_need(m: usize, k: usize, n: usize) -> Length
     ensures { Asked F64 m k n result }
 {
-    length_of(Kind::F64, m, k, n)
+    Length::from(pack_length(Kind::F64, m, k, n))
 }
