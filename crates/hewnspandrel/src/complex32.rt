@@ -52,5 +52,5 @@ pub extern "C" fn hewn_cgemm(
 pub extern "C" fn hewn_cgemm_need(m: usize, k: usize, n: usize) -> Length
     ensures { Asked C32 m k n result }
 {
-    length_of(Kind::C32, m, k, n)
+    Length::from(pack_length(Kind::C32, m, k, n))
 }

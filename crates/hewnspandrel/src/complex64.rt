@@ -52,5 +52,5 @@ pub extern "C" fn hewn_zgemm(
 pub extern "C" fn hewn_zgemm_need(m: usize, k: usize, n: usize) -> Length
     ensures { Asked C64 m k n result }
 {
-    length_of(Kind::C64, m, k, n)
+    Length::from(pack_length(Kind::C64, m, k, n))
 }

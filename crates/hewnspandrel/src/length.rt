@@ -1,8 +1,8 @@
 // The answer to the question for the need, as C takes it.
-ghost use Rattle.hewnspandrel.specs.Answers.{Asked};
+ghost use Rattle.std.specs.Prelude.{◌≡◌};
+ghost use Rattle.hewnspandrel.specs.Answers.{length_of};
 
-use element::kind::Kind;
-use layout::need::pack_length;
+use refusal::Refusal;
 
 // 0 and the length in elements, or the refusal's number and 0.
 #[repr(C)]
@@ -12,17 +12,19 @@ pub struct Length {
     pub elements: usize,
 }
 
-pub fn length_of(kind: Kind, m: usize, k: usize, n: usize) -> Length
-    ensures { Asked kind m k n result }
-{
-    match pack_length(kind, m, k, n) {
-        Ok(elements) => Length {
-            answer: 0,
-            elements,
-        },
-        Err(x) => Length {
-            answer: x.number(),
-            elements: 0,
-        },
+impl From<Result<usize, Refusal>> for Length {
+    ghost from_gives = { λ answer length. length ≡ length_of answer };
+
+    fn from(answer: Result<usize, Refusal>) -> Length {
+        match answer {
+            Ok(elements) => Length {
+                answer: 0,
+                elements,
+            },
+            Err(x) => Length {
+                answer: x.number(),
+                elements: 0,
+            },
+        }
     }
 }

@@ -4,10 +4,11 @@ ghost use Rattle.call.specs.Call.{call_of};
 ghost use Rattle.hewnspandrel.specs.Answers.{Answered, Asked};
 ghost use Rattle.hewnspandrel.specs.Real32.{number};
 
-use crate::length::{Length, length_of};
+use crate::length::Length;
 use crate::numbers::Real32;
 use element::kind::{self, Kind};
 use gemm::gemm::gemm;
+use layout::need::pack_length;
 use layout::operand::Operand;
 use refusal::answer_number;
 
@@ -51,5 +52,5 @@ pub extern "C" fn hewn_sgemm(
 pub extern "C" fn hewn_sgemm_need(m: usize, k: usize, n: usize) -> Length
     ensures { Asked F32 m k n result }
 {
-    length_of(Kind::F32, m, k, n)
+    Length::from(pack_length(Kind::F32, m, k, n))
 }

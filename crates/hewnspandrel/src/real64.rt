@@ -52,5 +52,5 @@ pub extern "C" fn hewn_dgemm(
 pub extern "C" fn hewn_dgemm_need(m: usize, k: usize, n: usize) -> Length
     ensures { Asked F64 m k n result }
 {
-    length_of(Kind::F64, m, k, n)
+    Length::from(pack_length(Kind::F64, m, k, n))
 }

@@ -24,7 +24,8 @@ whole c =
     let s = c.tiling-tiling.result in
     let x = c.next_multiple_of-rows.ensures in
     let y = c.next_multiple_of-columns.ensures in
-    let rows = multiple_up _ s.mr _ (small c).mr_some x.lower_bound x.upper_bound x.multiple ∙ ap (λ (z : ℕ). round_up z s.mr) c.min.ensures in
+    let rows = multiple_up _ s.mr _ (small c).mr_some x.lower_bound x.upper_bound x.multiple
+    ∙ ap (λ (z : ℕ). round_up z s.mr) c.min.ensures in
     let columns = multiple_up _ s.nr _ (small c).nr_some y.lower_bound y.upper_bound y.multiple
     ∙ ap (λ (z : ℕ). round_up z s.nr) c.min-2.ensures in
     let depth = c.min-3.ensures ∙ ap (λ (z : ℕ). min c.args.k z) c.depth_chunk.ensures in
