@@ -5,10 +5,11 @@ ghost use Rattle.call.specs.Call.{call_of};
 ghost use Rattle.hewnspandrel.specs.Answers.{Answered, Asked};
 ghost use Rattle.hewnspandrel.specs.Complex32.{number};
 
-use crate::length::{Length, length_of};
+use crate::length::Length;
 use crate::numbers::Complex32;
 use element::kind::{self, Kind};
 use gemm::gemm::gemm;
+use layout::need::pack_length;
 use layout::operand::Operand;
 use refusal::answer_number;
 
