@@ -15,21 +15,23 @@ pub struct Head {
     pub columns: u16,
 }
 
-pub fn head_of(answer: Result<Header, Refusal>) -> Head
-    ensures { result ≡ head_of answer }
-{
-    match answer {
-        Ok(h) => Head {
-            answer: 0,
-            version: h.version,
-            rows: h.shape.rows,
-            columns: h.shape.columns,
-        },
-        Err(x) => Head {
-            answer: x.number(),
-            version: 0,
-            rows: 0,
-            columns: 0,
-        },
+impl From<Result<Header, Refusal>> for Head {
+    ghost from_gives = { λ answer head. head ≡ head_of answer };
+
+    fn from(answer: Result<Header, Refusal>) -> Head {
+        match answer {
+            Ok(h) => Head {
+                answer: 0,
+                version: h.version,
+                rows: h.shape.rows,
+                columns: h.shape.columns,
+            },
+            Err(x) => Head {
+                answer: x.number(),
+                version: 0,
+                rows: 0,
+                columns: 0,
+            },
+        }
     }
 }

@@ -2,7 +2,7 @@
 ghost use Rattle.std.specs.Float.{binary32};
 ghost use Rattle.hewnspandrel.specs.Answers.{FileRead, ElementAnswered};
 
-use crate::head::{Head, head_of};
+use crate::head::Head;
 use panel::panels::element_at;
 use panel::reader::read;
 
@@ -19,7 +19,7 @@ pub struct Element {
 pub extern "C" fn hewn_read_f32(file: &[u8], numbers: &mut [f32]) -> Head
     ensures { FileRead binary32 file.now numbers.old numbers.new result }
 {
-    head_of(read(file, numbers))
+    Head::from(read(file, numbers))
 }
 
 // The element at a place of a panel.

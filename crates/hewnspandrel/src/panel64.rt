@@ -3,7 +3,7 @@
 ghost use Rattle.std.specs.Float.{binary64};
 ghost use Rattle.hewnspandrel.specs.Answers.{FileRead, ElementAnswered};
 
-use crate::head::{Head, head_of};
+use crate::head::Head;
 use panel::panels::element_at;
 use panel::reader::read;
 
@@ -20,7 +20,7 @@ pub struct Element {
 pub extern "C" fn hewn_read_f64(file: &[u8], numbers: &mut [f64]) -> Head
     ensures { FileRead binary64 file.now numbers.old numbers.new result }
 {
-    head_of(read(file, numbers))
+    Head::from(read(file, numbers))
 }
 
 // The element at a place of a panel.
