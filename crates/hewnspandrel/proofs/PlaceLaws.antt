@@ -1,7 +1,7 @@
 -- The answer for a place that is refused. Assumes nothing.
 use Rattle.std.proofs.Common.{◌≡◌, refl, sym, ◌∙◌, ℕ, subst, List}
 use Rattle.std.specs.Prelude.{Float}
-use Rattle.std.specs.Float.{Format, binary32, binary64, nan}
+use Rattle.std.specs.Float.{binary32, binary64, nan}
 use Rattle.std.specs.Float.Ieee.{of_bits}
 use Rattle.refusal.specs.declared.Refusal.{Refusal}
 use Rattle.refusal.specs.Numbers.{number_of}

@@ -10,7 +10,7 @@ use element::kind::Kind;
 use layout::need::pack_length;
 use layout::operand::Operand;
 use panel::file::Shape;
-use panel::real64::read_f64;
+use panel::reader::read;
 use refusal::Refusal;
 use show::{Hundredths, Refused};
 use std::fs::File;
@@ -107,7 +107,7 @@ fn show_picks(rt: &impl Print, scores: &Scores) -> io::Result<()> {
 
 // Reads a file's bytes into numbers, and answers the shape of what these then hold: the file's, or the old one where nothing was stored.
 fn take(rt: &impl Print, bytes: &[u8], numbers: &mut [f64], old: Shape) -> io::Result<Shape> {
-    match read_f64(bytes, numbers) {
+    match read(bytes, numbers) {
         Ok(h) => {
             let shape = h.shape;
             println!(rt; "{} rows, {} columns", shape.rows, shape.columns)?;
