@@ -1,10 +1,14 @@
 // One element of C by any entry point: what the examples share.
+ghost use Rattle.std.specs.Prelude.{◌≤◌};
+ghost use Rattle.std.specs.Mem.{type_size};
+
 use element::complex::{Complex32, Complex64};
+use element::real::Real;
 use gemm::gemm::gemm;
 use kernel::kernels::Kernel;
 use layout::operand::Operand;
 use packing::packs::Packs;
-use refusal::answer_number;
+use refusal::{Refusal, answer_number};
 use show::Bits;
 use std::{fmt, io};
 
@@ -51,20 +55,31 @@ impl<'a, T: Entry> Example<'a, T>
 where
     Bits<T::Real>: fmt::Display,
 {
-    // Over old C: the entry point, the example, the answer's number and C's reals by their bits.
-    pub fn run(
-        &self,
-        rt: &impl Print,
-        c: &mut [T::Real],
-        pack: &mut [T::Real],
-    ) -> io::Result<()> {
+    // Over old C.
+    pub fn run(&self, rt: &impl Print, c: &mut [T::Real]) -> io::Result<()>
+        requires { type_size T.Real.row ≤ 8 }
+    {
+        let mut pack = [T::Real::zero(); 3072];
         let r = gemm(
-            1, self.k, 1, self.alpha, self.a, UNIT, self.b, UNIT, self.beta, c, UNIT, pack,
+            1, self.k, 1, self.alpha, self.a, UNIT, self.b, UNIT, self.beta, c, UNIT, &mut pack,
         );
-        print!(rt; "{} {} {}", T::NAME, self.name, answer_number(r))?;
-        for x in c {
-            print!(rt; " {}", Bits(*x))?;
-        }
-        println!(rt; "")
+        report::<T>(rt, self.name, r, c)
     }
+}
+
+// The entry point, what was asked, the answer's number and C's reals by their bits.
+pub fn report<T: Entry>(
+    rt: &impl Print,
+    name: &str,
+    answer: Result<(), Refusal>,
+    c: &[T::Real],
+) -> io::Result<()>
+where
+    Bits<T::Real>: fmt::Display,
+{
+    print!(rt; "{} {name} {}", T::NAME, answer_number(answer))?;
+    for x in c {
+        print!(rt; " {}", Bits(*x))?;
+    }
+    println!(rt; "")
 }
