@@ -1,5 +1,5 @@
 // Where the depth chunk shows: P6 to P8 in f32, whose sums are rounded, and P9 in f64.
-use crate::{reals32, reals64};
+use crate::example::Example;
 use std::io;
 
 pub fn six_to_eight(rt: &impl Print) -> io::Result<()> {
@@ -12,42 +12,40 @@ pub fn six_to_eight(rt: &impl Print) -> io::Result<()> {
     earlier[0] = 16777216.0;
     earlier[255] = 1.0;
     earlier[256] = 1.0;
-    let seven = reals32::Example {
+    let seven = Example {
         name: "P7",
         k: 258,
-        alpha: 1.0,
+        alpha: 1.0f32,
         a: &a,
         b: &ones,
         beta: 0.0,
-        old: f32::NAN,
     };
-    let six = reals32::Example {
+    let six = Example {
         name: "P6",
         k: 3,
         a: &[16777216.0, 1.0, 1.0],
         ..seven
     };
-    let eight = reals32::Example {
+    let eight = Example {
         name: "P8",
         k: 257,
         a: &earlier,
         ..seven
     };
-    six.run(rt)?;
-    seven.run(rt)?;
-    eight.run(rt)
+    six.run(rt, &mut [f32::NAN])?;
+    seven.run(rt, &mut [f32::NAN])?;
+    eight.run(rt, &mut [f32::NAN])
 }
 
 pub fn nine(rt: &impl Print) -> io::Result<()> {
     let ones = [1.0f64; 257];
-    let nine = reals64::Example {
+    let nine = Example {
         name: "P9",
         k: 257,
         alpha: 1.0,
         a: &ones,
         b: &ones,
         beta: 2.0,
-        old: 3.0,
     };
-    nine.run(rt)
+    nine.run(rt, &mut [3.0])
 }

@@ -1,12 +1,11 @@
 // The examples that are not marked P: places of C, collisions, the need, the largest size; in both real kinds where they name values. Last,
 // strides that nobody steps along.
-use crate::{reals32, reals64};
+use crate::example::report;
+use crate::reals;
 use element::kind::Kind;
+use gemm::gemm::gemm;
 use layout::need::pack_length;
 use layout::operand::Operand;
-use refusal::{Refusal, answer_number};
-use sgemm::gemm::sgemm;
-use show::Bits;
 use std::io;
 
 // Row by row from the first element, with this row stride.
@@ -23,8 +22,8 @@ fn collides(rt: &impl Print, m: usize, n: usize, lc: Operand, c: &mut [f32]) -> 
         cs: 0,
     };
     let one = [1.0f32];
-    let r = sgemm(m, 1, n, 1.0, &one, o, &one, o, 0.0, c, lc, &mut pack);
-    println!(rt; "sgemm places {}", r.number())
+    let r = gemm(m, 1, n, 1.0f32, &one, o, &one, o, 0.0, c, lc, &mut pack);
+    report::<f32>(rt, "places", r, &[])
 }
 
 // What the need of an f32 call is, or that it is refused.
@@ -42,16 +41,16 @@ fn packed(rt: &impl Print, pack: &mut [f32]) -> io::Result<()> {
     let mut c = [0.0f32; 45];
     let la = rows_of(300);
     let lb = rows_of(5);
-    let r = sgemm(9, 300, 5, 1.0, &a, la, &b, lb, 0.0, &mut c, lb, pack);
-    println!(rt; "sgemm pack {} {}", r.number(), Bits(c[44]))
+    let r = gemm(9, 300, 5, 1.0f32, &a, la, &b, lb, 0.0, &mut c, lb, pack);
+    report::<f32>(rt, "pack", r, &c[44..])
 }
 
 pub fn all(rt: &impl Print) -> io::Result<()> {
     for base in [2, 1] {
-        reals32::downwards(rt, base)?;
+        reals::downwards::<f32>(rt, base)?;
     }
     for base in [2, 1] {
-        reals64::downwards(rt, base)?;
+        reals::downwards::<f64>(rt, base)?;
     }
     let near = Operand {
         base: 0,
@@ -70,9 +69,8 @@ pub fn all(rt: &impl Print) -> io::Result<()> {
     collides(rt, 2, 2, near, &mut four)?;
     collides(rt, 2, 2, mirrored, &mut five)?;
     need(rt, 9, 300, 5)?;
-    let mut enough = [0.0f32; 6144];
-    packed(rt, &mut enough)?;
-    packed(rt, &mut enough[..6143])?;
+    packed(rt, &mut [0.0; 6144])?;
+    packed(rt, &mut [0.0; 6143])?;
     collides(rt, 65536, 2, near, &mut five)?;
     collides(rt, 65537, 2, near, &mut five)?;
     need(rt, 65536, 65536, 65536)?;

@@ -1,23 +1,23 @@
-// Document 01's "Examples on both sides", run: each line is the entry point, the example, the answer's number and C's floats by their bits.
+// The examples P1 to P12 of rules/specs/Examples.antt and element/specs/Examples.antt, run, with some of layouts and refusals: each line is
+// the entry point, the example, the answer's number and C's floats by their bits.
 #![tactic(auto)]
 
 mod chunks;
-mod complex32;
-mod complex64;
+mod complexes;
+mod example;
 mod layouts;
-mod reals32;
-mod reals64;
+mod reals;
 
 use std::io;
 
 fn main(rt: HostRuntime) -> io::Result<()> {
-    reals32::one_to_five(&rt)?;
+    reals::one_to_five::<f32>(&rt)?;
     chunks::six_to_eight(&rt)?;
-    reals32::ten(&rt)?;
-    reals64::one_to_five(&rt)?;
+    reals::ten::<f32>(&rt)?;
+    reals::one_to_five::<f64>(&rt)?;
     chunks::nine(&rt)?;
-    reals64::ten(&rt)?;
-    complex32::both(&rt)?;
-    complex64::both(&rt)?;
+    reals::ten::<f64>(&rt)?;
+    complexes::both::<f32>(&rt)?;
+    complexes::both::<f64>(&rt)?;
     layouts::all(&rt)
 }

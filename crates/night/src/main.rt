@@ -5,8 +5,8 @@
 
 ghost use Rattle.std.specs.Prelude.{◌≤◌};
 
-use gemm::gemm::gemm;
 use element::kind::Kind;
+use gemm::gemm::gemm;
 use layout::need::pack_length;
 use layout::operand::Operand;
 use panel::file::Shape;
