@@ -73,7 +73,7 @@ where
     compared(answer_number(r), c, recorded)
 }
 
-// What a call comes to, as one of the kind of T.
+// What a call comes to, as one of the kind of T. There is no heap: an array is as long as a call's slices may be.
 fn replay_as<T: Scalar>(call: &[u64]) -> Result<(), Difference>
 where
     T::Real: Patterns,
