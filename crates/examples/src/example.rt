@@ -55,7 +55,7 @@ impl<'a, T: Entry> Example<'a, T>
 where
     Bits<T::Real>: fmt::Display,
 {
-    // Over old C.
+    // Over old C. A real takes at most 8 bytes, so that an array of them fits in memory: here, and below.
     pub fn run(&self, rt: &impl Print, c: &mut [T::Real]) -> io::Result<()>
         requires { type_size T.Real.row ≤ 8 }
     {
