@@ -4,7 +4,7 @@ use Rattle.std.specs.Prelude.{Float, Ok, Err}
 use Rattle.std.proofs.Common.{List, ℕ, ◌≡◌, ◌<◌, ◌^◌, ◌⊎◌, length, inl, inr, refl, sym, ◌∙◌, arith}
 use Rattle.std.proofs.lemmas.Result.{err_from_is_err_and}
 use Rattle.refusal.proofs.NumberLaws.{refusal_some}
-use Rattle.element.specs.{Fates.fate_of, Kinds.depth_chunk, Kinds.view_of}
+use Rattle.element.specs.{Kinds.depth_chunk, Kinds.view_of}
 use Rattle.element.specs.FloatLaws.{length_floats}
 use Rattle.layout.specs.Operands.{Writable}
 use Rattle.call.specs.{Call.Call, Call.call_of, Call.Does, Verdict.lengths, Verdict.Verdict, Outcome.Outcome}

@@ -2,7 +2,7 @@
 use Rattle.std.proofs.Common.{rules, ◌≡◌, ◌*◌, ◌<◌, arith, sym, ◌∙◌}
 use Rattle.rules.specs.Element.{chunks}
 use Rattle.element.specs.{Fates.fate_of, Kinds.tiling_of}
-use Rattle.element.specs.FloatLaws.{length_floats, lent_floats, back_floats}
+use Rattle.element.specs.FloatLaws.{lent_floats, back_floats}
 use Rattle.layout.specs.Operands.{Reachable}
 use Rattle.loops.specs.ConstantLaws.{columns_within}
 use Rattle.loops.specs.DepthLoop.{depth_none, behind_packable, depth_asks, depth_turn}

@@ -1,5 +1,5 @@
 -- A column chunk more in each turn. Assumes nothing.
-use Rattle.std.proofs.Common.{rules, ℕ, min, ◌*◌, ◌≡◌, ◌<◌, arith, ap, sym, ◌∙◌}
+use Rattle.std.proofs.Common.{rules, min, ◌*◌, ◌≡◌, ◌<◌, arith, sym, ◌∙◌}
 use Rattle.rules.specs.Element.{chunks}
 use Rattle.element.specs.Kinds.{tiling_of, per_element}
 use Rattle.element.specs.FloatLaws.{length_floats}

@@ -3,7 +3,7 @@ use Rattle.std.proofs.Common.{rules, ◌≡◌, ◌*◌, ◌<◌, arith, ap, sym
 use Rattle.rules.specs.Element.{chunks}
 use Rattle.element.specs.{Fates.fate_of, Kinds.tiling_of, Kinds.view_of}
 use Rattle.element.specs.FloatLaws.{take_floats, rest_floats}
-use Rattle.layout.specs.{NeedLaws.kind_small, Operands.Reachable}
+use Rattle.layout.specs.{Operands.Reachable}
 use Rattle.loops.specs.ConstantLaws.{chunk_some}
 use Rattle.loops.specs.RowLoop.{rows_done, row_packable, row_panels, row_turn}
 use Rattle.loops.specs.TurnLaws.{turns_next, rows_reached, rows_written}
