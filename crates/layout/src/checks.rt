@@ -15,7 +15,7 @@ fn long_stride(entries: usize, stride: isize) -> bool
     entries >= 2 && stride.unsigned_abs() > 2147483648
 }
 
-// The greatest common divisor, by Euclid's steps.
+// The greatest common divisor, by Euclid's steps: a loop with no index to count.
 fn gcd(a: usize, b: usize) -> usize
     requires { 0 < a }
     ensures { (0 < result) × LeastSteps a b result }
@@ -52,7 +52,7 @@ impl Operand {
     }
 
     // Are two different places the same element? Not where a row ends before the next one begins, or a column. Else, with g the strides'
-    // greatest common divisor, |cs| / g rows lie where |rs| / g columns do.
+    // greatest common divisor, |cs| / g rows lie where |rs| / g columns do. A case a test, since one condition of them all reads worse.
     pub fn collides(self, rows: usize, columns: usize) -> bool
         requires { Modest rows columns self }
         ensures { Tells result (TwoMeet rows columns self) }

@@ -120,7 +120,7 @@ fn take(rt: &impl Print, bytes: &[u8], numbers: &mut [f64], old: Shape) -> io::R
     }
 }
 
-// The same of an open file.
+// The same of an open file. There is no heap: its bytes stand in an array, whose first ones they are.
 fn take_file(
     rt: &impl Print,
     file: &mut impl Read,

@@ -118,6 +118,7 @@ fn read_words(file: &mut impl Read, words: &mut [u64]) -> io::Result<usize> {
     Ok(8 * words.len())
 }
 
+// There is no heap: a file's words stand in an array, whose first ones they are.
 fn replay_file(rt: &impl Print, file: &mut impl Read) -> io::Result<()> {
     let mut words = [0u64; 32768];
     let bytes = read_words(file, &mut words)?;
