@@ -37,4 +37,10 @@ module _ {N : Type 0} {is : N → Float} {floats : List N → List Float} (each 
   pub back_floats : (n : ℕ) (s r : List N) → floats (put_mid n (length s - n) s r) ≡ put_mid n (length (floats s) - n) (floats s) (floats r)
   back_floats n s r =
       append_floats (take n s) (r ++ post_of n (length s - n) s)
-      ∙ rw (take_floats n s, append_floats r (post_of n (length s - n) s), drop_floats (length s - n) (drop n s), drop_floats n s, sym (length_floats s))
+      ∙ rw (
+        take_floats n s,
+        append_floats r (post_of n (length s - n) s),
+        drop_floats (length s - n) (drop n s),
+        drop_floats n s,
+        sym (length_floats s),
+      )

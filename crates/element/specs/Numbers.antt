@@ -6,7 +6,8 @@ use Rattle.rules.specs.Held.{Held}
 use Rattle.element.specs.declared.complex.Complex.{Complex as code}
 
 -- a complex number's parts are held as the real holds them
-pub parts_back : {N : Type 0} (h : Held Float N) (z : Complex) → ◌≡◌ {A = Complex} (record { re = h.is (h.of z.re); im = h.is (h.of z.im) }) z
+pub parts_back : {N : Type 0} (h : Held Float N) (z : Complex)
+    → ◌≡◌ {A = Complex} (record { re = h.is (h.of z.re); im = h.is (h.of z.im) }) z
 parts_back h z = rw (h.back z.re, h.back z.im)
 
 abbrev pub complex_held : {N : Type 0} → Held Float N → Held Complex (code N)

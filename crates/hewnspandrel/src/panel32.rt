@@ -1,4 +1,4 @@
-// The functions of panels of f32: an export has no type parameter, nor has a struct in its signature, so each real has its own (tools/derive).
+// The functions of panels of f32. An export has no type parameter, nor has a struct in its signature: so each real has its own.
 ghost use Rattle.std.specs.Float.{binary32};
 ghost use Rattle.hewnspandrel.specs.Answers.{FileRead, ElementAnswered};
 

@@ -1,5 +1,5 @@
 // Derived from crates/hewnspandrel/src/panel32.rt by tools/derive: edit that.
-// The functions of panels of f64: an export has no type parameter, nor has a struct in its signature, so each real has its own (tools/derive).
+// The functions of panels of f64. An export has no type parameter, nor has a struct in its signature: so each real has its own.
 ghost use Rattle.std.specs.Float.{binary64};
 ghost use Rattle.hewnspandrel.specs.Answers.{FileRead, ElementAnswered};
 

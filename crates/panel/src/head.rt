@@ -77,7 +77,7 @@ fn judge_body(file: &[u8], shape: Shape, kind: u8, room: usize) -> Result<(), Re
     Ok(())
 }
 
-// 21 to 26, or the header. The kind stays a byte, no type: `HeaderOr` is promised of any byte that is asked for, also of one that is no kind.
+// 21 to 26, or the header. The kind stays a byte, no type: `HeaderOr` is promised of any byte that is asked for, also where it is no kind.
 pub fn judge(file: &[u8], kind: u8, room: usize) -> Result<Header, Refusal>
     ensures { HeaderOr (HeadThen file.now (BodyThen file.now kind room done)) file.now result }
 {

@@ -9,7 +9,8 @@ use Rattle.gemm.proofs.scale.scale_one.Goals as goal
 use Rattle.gemm.proofs.scale.scale_one.Goals.{After-place-at}
 
 -- the place is inside c
-inside : (g : Over) (c : After-place-at g) → c.place-at.result < (view_of g.T.Element.kind).count (length (g.T.Real.Real.floats c.args.c.now))
+inside : (g : Over) (c : After-place-at g)
+    → c.place-at.result < (view_of g.T.Element.kind).count (length (g.T.Real.Real.floats c.args.c.now))
 inside g c =
     omega (
       arith,
