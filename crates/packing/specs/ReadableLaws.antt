@@ -9,5 +9,5 @@ unfolding Inside
 inside_prop len (pos x) = hlevel le_prop
 inside_prop len (negsuc x) = hlevel
 
-pub readable_prop : (m n : ℕ) (o : Operand) (len : ℕ) → IsProp (Readable m n o len)
-readable_prop m n o len = hlevel (le_prop, inside_prop)
+pub readable_prop : {m n : ℕ} {o : Operand} {len : ℕ} → IsProp (Readable m n o len)
+readable_prop = hlevel (le_prop, inside_prop)

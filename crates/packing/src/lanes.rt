@@ -26,7 +26,8 @@ fn lanes_of<T: Element, F: Fn(usize) -> T, const N: usize>(w: usize, f: F) -> [T
 pub fn ragged<T: Element, const N: usize>(w: usize, a: Matrix<T>, first: usize, p: usize) -> [T; N]
     requires { (w ≤ N) × (first + w < 2 ^ 32) × (p < a.columns) }
     ensures { result ≡ line T.held N
-        (up_to (arith_of T.kind) w (λ i. padded (arith_of T.kind) a.entry.rows (element_at T.kind (T.Real.floats a.entry.reals.now) a.entry.at) (first + i) p)) }
+        (up_to (arith_of T.kind) w (λ i. padded (arith_of T.kind) a.entry.rows
+        (element_at T.kind (T.Real.floats a.entry.reals.now) a.entry.at) (first + i) p)) }
 {
     lanes_of(w, |i| a.padded(first + i, p))
 }
@@ -54,7 +55,8 @@ fn contiguous<T: Element, const N: usize>(w: usize, a: &[T::Real], from: usize) 
 pub fn lanes<T: Element, const N: usize>(w: usize, a: Matrix<T>, first: usize, p: usize) -> [T; N]
     requires { (w ≤ N) × (first + w < 2 ^ 32) × (p < a.columns) × (0 < w) }
     ensures { result ≡ line T.held N
-        (up_to (arith_of T.kind) w (λ i. padded (arith_of T.kind) a.entry.rows (element_at T.kind (T.Real.floats a.entry.reals.now) a.entry.at) (first + i) p)) }
+        (up_to (arith_of T.kind) w (λ i. padded (arith_of T.kind) a.entry.rows
+        (element_at T.kind (T.Real.floats a.entry.reals.now) a.entry.at) (first + i) p)) }
 {
     if first + w <= a.rows {
         if a.at.rs == 1 {

@@ -15,7 +15,7 @@ pub struct Matrix<'a, T: Element> {
     pub at: Operand,
     pub rows: usize,
     pub columns: usize,
-    pub ghost readable: { Readable rows columns at ((view_of T.kind).count (length (T.Real.floats reals.now))) } by { readable_prop rows columns at ((view_of T.kind).count (length (T.Real.floats reals.now))) },
+    pub ghost readable: { Readable rows columns at ((view_of T.kind).count (length (T.Real.floats reals.now))) } by { readable_prop },
 }
 
 impl<'a, T: Element> Copy for Matrix<'a, T> {}

@@ -10,7 +10,7 @@ use crate::matrix::Matrix;
 use crate::packs::Packs;
 use layout::util::chunk_count;
 
-// One panel: kc depth steps.
+// One panel: a depth step for each of a's columns.
 fn pack_panel<T: Packs>(pack: &mut [T::Real], start: usize, w: usize, a: Matrix<T>, first: usize)
     requires { (start + a.columns * (packing_of T.kind).floats w ≤ length (T.Real.floats pack.old))
         × (w ≤ (tiling_of T.kind).mr) × (first + w < 2 ^ 32) × (0 < w) }
@@ -32,6 +32,6 @@ pub fn pack<T: Packs>(pack: &mut [T::Real], w: usize, a: Matrix<T>)
         (T.Real.floats a.entry.reals.now) (T.Real.floats pack.old) (T.Real.floats pack.new) }
 {
     for ir in 0..chunk_count(a.rows, w) {
-        pack_panel::<T>(pack, ir * (a.columns * (w * T::REALS)), w, a, ir * w);
+        pack_panel(pack, ir * (a.columns * (w * T::REALS)), w, a, ir * w);
     }
 }

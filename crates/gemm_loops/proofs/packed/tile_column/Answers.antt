@@ -1,5 +1,5 @@
 -- A tile more in each turn. Assumes nothing.
-use Rattle.std.proofs.Common.{rules, ◌≡◌, ℕ, ◌+◌, ◌*◌, ◌≤◌, ◌<◌, length, arith, ap, sym, ◌∙◌}
+use Rattle.std.proofs.Common.{rules, ◌≡◌, ◌+◌, ◌*◌, ◌≤◌, ◌<◌, length, arith, ap, sym, ◌∙◌}
 use Rattle.rules.specs.Element.{chunks}
 use Rattle.element.specs.{KindLaws.lawful, Kinds.tiling_of, Kinds.view_of, Kinds.arith_of, Fates.fate_of}
 use Rattle.element.specs.FloatLaws.{length_floats, rest_floats}
@@ -8,7 +8,7 @@ use Rattle.layout.specs.NeedLaws.{kind_sides}
 use Rattle.loops.specs.{Panels.packing_of, PanelLaws.next_fits, PanelLaws.rest_long}
 use Rattle.loops.specs.ConstantLaws.{panel_floats, first_fits}
 use Rattle.loops.specs.LoopLaws.{rows_end, tile_row_turn}
-use Rattle.loops.specs.TurnLaws.{turns_start, turns_next, rows_reached, rows_written, turn_most}
+use Rattle.loops.specs.TurnLaws.{turns_next, rows_reached, rows_written, turn_most}
 use Rattle.gemm_loops.proofs.packed.tile_column.Given.{Over}
 use Rattle.gemm_loops.proofs.packed.tile_column.Goals as goal
 use Rattle.gemm_loops.proofs.packed.tile_column.Goals.{After-REALS, In-loop-i}
