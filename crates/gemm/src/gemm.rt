@@ -10,6 +10,7 @@ use element::real::Real;
 use gemm_loops::outer::gemm_loop;
 use kernel::kernels::Kernel;
 use layout::operand::Operand;
+use packing::matrix::Matrix;
 use packing::packs::Packs;
 use refusal::Refusal;
 
@@ -55,20 +56,18 @@ pub fn gemm<T: Kernel + Packs>(
         c_to_beta_c(m, n, Fate::from_beta(beta), c, lc);
         return Ok(());
     }
-    gemm_loop(
-        T::DEPTH_CHUNK,
-        m,
-        k,
-        n,
-        alpha,
-        a,
-        la,
-        b,
-        lb,
-        beta,
-        c,
-        lc,
-        pack,
-    );
+    let a = Matrix {
+        reals: a,
+        at: la,
+        rows: m,
+        columns: k,
+    };
+    let b = Matrix {
+        reals: b,
+        at: lb,
+        rows: k,
+        columns: n,
+    };
+    gemm_loop(T::DEPTH_CHUNK, alpha, a, b, beta, c, lc, pack);
     Ok(())
 }

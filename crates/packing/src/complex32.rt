@@ -1,6 +1,7 @@
 // How complex f32 is packed. Rust: `pack_complex`, cgemm_common.rs.
 use crate::complex::store;
 use crate::lanes::ragged;
+use crate::matrix::Matrix;
 use crate::packs::Packs;
 use element::complex::Complex32;
 use element::elements::Element;
@@ -23,7 +24,13 @@ impl Packs for Complex32 {
         first: usize,
         p: usize,
     ) {
-        let x: [Complex32; LANES] = ragged(w, a, la, m, kc, first, p);
+        let a = Matrix {
+            reals: a,
+            at: la,
+            rows: m,
+            columns: kc,
+        };
+        let x: [Complex32; LANES] = ragged(w, a, first, p);
         store(pack, start, w, x);
     }
 }

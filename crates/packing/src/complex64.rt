@@ -2,6 +2,7 @@
 // How complex f64 is packed. Rust: `pack_complex`, cgemm_common.rs.
 use crate::complex::store;
 use crate::lanes::ragged;
+use crate::matrix::Matrix;
 use crate::packs::Packs;
 use element::complex::Complex64;
 use element::elements::Element;
@@ -24,7 +25,13 @@ impl Packs for Complex64 {
         first: usize,
         p: usize,
     ) {
-        let x: [Complex64; LANES] = ragged(w, a, la, m, kc, first, p);
+        let a = Matrix {
+            reals: a,
+            at: la,
+            rows: m,
+            columns: kc,
+        };
+        let x: [Complex64; LANES] = ragged(w, a, first, p);
         store(pack, start, w, x);
     }
 }

@@ -1,13 +1,12 @@
 // One depth step of a panel as an array of lanes: which path reads it. Rust: `pack_impl`, packing.rs, and `pack_complex`, cgemm_common.rs.
 ghost use Rattle.std.specs.Prelude.{◌≡◌, ℕ, ◌+◌, ◌^◌, ◌<◌, ◌≤◌, length};
 ghost use Rattle.element.specs.Kinds.{arith_of, view_of};
-ghost use Rattle.layout.specs.Operands.{Reachable, Readable};
-ghost use Rattle.layout.specs.Place.{index_of, element_at};
+ghost use Rattle.layout.specs.Place.{element_at};
 ghost use Rattle.loops.specs.Panels.{padded};
 ghost use Rattle.loops.specs.Tiles.{up_to, line};
 
+use crate::matrix::Matrix;
 use element::elements::Element;
-use layout::operand::Operand;
 
 // Lane i is f(i) below w, and +0 from w on.
 fn lanes_of<T: Element, F: Fn(usize) -> T, const N: usize>(w: usize, f: F) -> [T; N]
@@ -23,62 +22,24 @@ fn lanes_of<T: Element, F: Fn(usize) -> T, const N: usize>(w: usize, f: F) -> [T
     x
 }
 
-// The element at row i and depth p, a place that is inside a.
-fn element_in<T: Element>(a: &[T::Real], la: Operand, i: usize, p: usize) -> T
-    requires reachable { Reachable la i p }
-    requires inside { index_of la i p < (view_of T.kind).count (length (T.Real.floats a.now)) }
-    ensures { T.held.is result ≡ element_at T.kind (T.Real.floats a.now) la i p }
-{
-    T::read(a, la.place(i, p))
-}
-
-// The element at row i and depth p of a matrix of m rows by kc depth steps, and +0 from row m on.
-fn element_at<T: Element>(a: &[T::Real], la: Operand, m: usize, kc: usize, i: usize, p: usize) -> T
-    requires readable { Readable m kc la ((view_of T.kind).count (length (T.Real.floats a.now))) }
-    requires p_lt_kc { p < kc }
-    ensures { T.held.is result ≡ padded (arith_of T.kind) m (element_at T.kind (T.Real.floats a.now) la) i p }
-{
-    if i < m {
-        return element_in(a, la, i, p);
-    }
-    T::zero()
-}
-
 // w elements from row `first` on, and +0 where rows are missing.
-pub fn ragged<T: Element, const N: usize>(
-    w: usize,
-    a: &[T::Real],
-    la: Operand,
-    m: usize,
-    kc: usize,
-    first: usize,
-    p: usize,
-) -> [T; N]
-    requires readable { Readable m kc la ((view_of T.kind).count (length (T.Real.floats a.now))) }
-    requires w_le_n { (w ≤ N) × (first + w < 2 ^ 32) × (p < kc) }
+pub fn ragged<T: Element, const N: usize>(w: usize, a: Matrix<T>, first: usize, p: usize) -> [T; N]
+    requires { (w ≤ N) × (first + w < 2 ^ 32) × (p < a.columns) }
     ensures { result ≡ line T.held N
-        (up_to (arith_of T.kind) w (λ i. padded (arith_of T.kind) m (element_at T.kind (T.Real.floats a.now) la) (first + i) p)) }
+        (up_to (arith_of T.kind) w (λ i. padded (arith_of T.kind) a.entry.rows
+        (element_at T.kind (T.Real.floats a.entry.reals.now) a.entry.at) (first + i) p)) }
 {
-    lanes_of(w, |i| element_at(a, la, m, kc, first + i, p))
+    lanes_of(w, |i| a.padded(first + i, p))
 }
 
 // w elements by places from row `first` on, none of them missing. Apart from `ragged`, whose test for missing rows makes packing f32 a
 // tenth slower and f64 by more than a half.
-fn general<T: Element, const N: usize>(
-    w: usize,
-    a: &[T::Real],
-    la: Operand,
-    m: usize,
-    kc: usize,
-    first: usize,
-    p: usize,
-) -> [T; N]
-    requires readable { Readable m kc la ((view_of T.kind).count (length (T.Real.floats a.now))) }
-    requires w_le_n { (w ≤ N) × (first + w ≤ m) × (p < kc) }
+fn general<T: Element, const N: usize>(w: usize, a: Matrix<T>, first: usize, p: usize) -> [T; N]
+    requires { (w ≤ N) × (first + w ≤ a.rows) × (p < a.columns) }
     ensures { result ≡ line T.held N
-        (up_to (arith_of T.kind) w (λ i. element_at T.kind (T.Real.floats a.now) la (first + i) p)) }
+        (up_to (arith_of T.kind) w (λ i. element_at T.kind (T.Real.floats a.entry.reals.now) a.entry.at (first + i) p)) }
 {
-    lanes_of(w, |i| element_in(a, la, first + i, p))
+    lanes_of(w, |i| a.element(first + i, p))
 }
 
 // w neighbours in the slice, from `from` on.
@@ -91,25 +52,17 @@ fn contiguous<T: Element, const N: usize>(w: usize, a: &[T::Real], from: usize) 
 }
 
 // w elements from row `first` on at depth p: where no row is missing, the contiguous path if they are neighbours, else the general one.
-pub fn lanes<T: Element, const N: usize>(
-    w: usize,
-    a: &[T::Real],
-    la: Operand,
-    m: usize,
-    kc: usize,
-    first: usize,
-    p: usize,
-) -> [T; N]
-    requires readable { Readable m kc la ((view_of T.kind).count (length (T.Real.floats a.now))) }
-    requires w_le_n { (w ≤ N) × (first + w < 2 ^ 32) × (p < kc) × (0 < w) }
+pub fn lanes<T: Element, const N: usize>(w: usize, a: Matrix<T>, first: usize, p: usize) -> [T; N]
+    requires { (w ≤ N) × (first + w < 2 ^ 32) × (p < a.columns) × (0 < w) }
     ensures { result ≡ line T.held N
-        (up_to (arith_of T.kind) w (λ i. padded (arith_of T.kind) m (element_at T.kind (T.Real.floats a.now) la) (first + i) p)) }
+        (up_to (arith_of T.kind) w (λ i. padded (arith_of T.kind) a.entry.rows
+        (element_at T.kind (T.Real.floats a.entry.reals.now) a.entry.at) (first + i) p)) }
 {
-    if first + w <= m {
-        if la.rs == 1 {
-            return contiguous(w, a, la.place(first, p));
+    if first + w <= a.rows {
+        if a.at.rs == 1 {
+            return contiguous(w, a.reals, a.at.place(first, p));
         }
-        return general(w, a, la, m, kc, first, p);
+        return general(w, a, first, p);
     }
-    ragged(w, a, la, m, kc, first, p)
+    ragged(w, a, first, p)
 }

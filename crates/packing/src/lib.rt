@@ -5,6 +5,7 @@ mod complex;
 mod complex32;
 mod complex64;
 mod lanes;
+pub mod matrix;
 pub mod packs;
 pub mod panels;
 mod real;

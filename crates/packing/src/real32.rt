@@ -1,5 +1,6 @@
 // How f32 is packed. Rust: `pack_impl`, packing.rs.
 use crate::lanes::lanes;
+use crate::matrix::Matrix;
 use crate::packs::Packs;
 use crate::real::store;
 use element::elements::Element;
@@ -22,7 +23,13 @@ impl Packs for f32 {
         first: usize,
         p: usize,
     ) {
-        let x: [f32; LANES] = lanes(w, a, la, m, kc, first, p);
+        let a = Matrix {
+            reals: a,
+            at: la,
+            rows: m,
+            columns: kc,
+        };
+        let x: [f32; LANES] = lanes(w, a, first, p);
         store(pack, start, w, x);
     }
 }

@@ -1,6 +1,7 @@
 // Derived from crates/packing/src/real32.rt by tools/derive: edit that.
 // How f64 is packed. Rust: `pack_impl`, packing.rs.
 use crate::lanes::lanes;
+use crate::matrix::Matrix;
 use crate::packs::Packs;
 use crate::real::store;
 use element::elements::Element;
@@ -23,7 +24,13 @@ impl Packs for f64 {
         first: usize,
         p: usize,
     ) {
-        let x: [f64; LANES] = lanes(w, a, la, m, kc, first, p);
+        let a = Matrix {
+            reals: a,
+            at: la,
+            rows: m,
+            columns: kc,
+        };
+        let x: [f64; LANES] = lanes(w, a, first, p);
         store(pack, start, w, x);
     }
 }

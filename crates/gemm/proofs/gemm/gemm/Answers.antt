@@ -11,7 +11,7 @@ use Rattle.call.specs.{Call.Call, Call.call_of, Call.Does, Verdict.lengths, Verd
 use Rattle.call.specs.DoneLaws.{writable_c, readable_a, readable_b, enough_room, none_idle}
 use Rattle.call.specs.EndLaws.{does_empty, out_refused, out_idle, out_full}
 use Rattle.call.proofs.EndLaws.{does_flat}
-use Rattle.loops.specs.{ConstantLaws.count_most, Work.MatricesFit, DepthLoop.depth_done, ColumnLoop.kept_elements}
+use Rattle.loops.specs.{ConstantLaws.count_most, DepthLoop.depth_done, ColumnLoop.kept_elements}
 use Rattle.gemm.proofs.gemm.gemm.Given.{Over}
 use Rattle.gemm.proofs.gemm.gemm.Goals as goal
 use Rattle.gemm.proofs.gemm.gemm.Goals.{In_ok-judge}
@@ -99,15 +99,23 @@ returns-then-k-eq0 g c =
     idle g j _ (does_flat (whole g j) (floats a.a.now) (floats a.b.now) (floats a.c.now) _ c.if-k-eq0.true
     (rw c.from_beta.ensures at c.c_to_beta_c.ensures))
 
--- and what the loops read may be read
-fits : (g : Over) (c : In_ok-judge g) → 0 < c.args.m → 0 < c.args.k → 0 < c.args.n → let a = c.args in let floats = g.T.Real.Real.floats in
-    MatricesFit g.T.Element.kind a.m a.k a.n a.la a.lb a.lc (floats a.a.now) (floats a.b.now) (floats a.c.now)
+-- A and B may be read
+pub invariant_of-a : goal.invariant_of-a
 unfolding Verdict
-fits g c m k n =
-    let o = (whole g c).over in record {
-      writable = target g c m n;
-      readable_a = readable_a g.T.Element.kind _ o _ (accepted g c) m n k (few g c.args.a.now c.count.ensures.0 c.count.ensures.1);
-      readable_b = readable_b g.T.Element.kind _ o _ (accepted g c) m n k (few g c.args.b.now c.count-2.ensures.0 c.count-2.ensures.1);
+invariant_of-a g c =
+    let j = (goal.at.invariant_of-a g c).In_ok-judge in
+    record {
+      readable = readable_a g.T.Element.kind _ (whole g j).over _ (accepted g j) (omega arith) (omega arith) (omega arith)
+          (few g c.args.a.now c.count.ensures.0 c.count.ensures.1);
+    }
+
+pub invariant_of-b : goal.invariant_of-b
+unfolding Verdict
+invariant_of-b g c =
+    let j = (goal.at.invariant_of-b g c).In_ok-judge in
+    record {
+      readable = readable_b g.T.Element.kind _ (whole g j).over _ (accepted g j) (omega arith) (omega arith) (omega arith)
+          (few g c.args.b.now c.count-2.ensures.0 c.count-2.ensures.1);
     }
 
 pub gemm_loop-requires : goal.gemm_loop-requires
@@ -116,8 +124,8 @@ gemm_loop-requires g c =
     let j = (goal.at.gemm_loop-requires g c).In_ok-judge in
     let e : depth_chunk ≡ c.DEPTH_CHUNK.result = g.met.T.Element.constants.depth ∙ sym c.DEPTH_CHUNK.ensures in
     rw (sym e) (record {
-      matrices = fits g j (omega arith) (omega arith) (omega arith);
-      chunk = omega arith;
+      depth = (refl, omega arith);
+      writable = target g j (omega arith) (omega arith);
       room = enough_room g.T.Element.kind _ (whole g j).over _ (accepted g j) (omega arith) (omega arith) (omega arith);
     })
 

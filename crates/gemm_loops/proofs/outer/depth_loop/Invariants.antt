@@ -9,8 +9,8 @@ invariant-loop-p g l =
     let kind = g.T.Element.kind in
     let is = g.T.Element.held.is in
     let floats = g.T.Real.Real.floats in
-    Turns l.chunk l.k l.p-end l.p (floats l.initial.c) (floats l.c)
-    (LoopLeaves kind l.lc l.m l.n
-    (deep kind l.chunk (is l.alpha) (is l.beta) (floats l.a) l.la (floats l.b) l.lb l.k l.p)
-    (l.asize + panels kind (tiling_of kind).nr l.n (min l.k l.chunk))
+    Turns l.chunk l.a.columns l.p-end l.p (floats l.initial.c) (floats l.c)
+    (LoopLeaves kind l.lc l.a.rows l.b.columns
+    (deep kind l.chunk (is l.alpha) (is l.beta) (floats l.a.reals.now) l.a.at (floats l.b.reals.now) l.b.at l.a.columns l.p)
+    (l.asize + panels kind (tiling_of kind).nr l.b.columns (min l.a.columns l.chunk))
     (floats l.initial.c) (floats l.c) (floats l.initial.pack) (floats l.pack))

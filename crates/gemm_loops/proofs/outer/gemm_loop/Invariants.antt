@@ -12,8 +12,9 @@ invariant-loop-j g l =
     let is = g.T.Element.held.is in
     let floats = g.T.Real.Real.floats in
     let w = (tiling_of kind).nc in
-    Turns w l.n l.j-end l.j (floats l.initial.c) (floats l.c)
-    (LoopLeaves kind l.lc l.m (min (l.j * w) l.n)
-    (deep kind l.chunk (is l.alpha) (is l.beta) (floats l.a) l.la (floats l.b) l.lb l.k (chunks l.chunk l.k))
-    (need_of (tiling_of kind) l.chunk l.m l.k l.n * per_element kind)
+    Turns w l.b.columns l.j-end l.j (floats l.initial.c) (floats l.c)
+    (LoopLeaves kind l.lc l.a.rows (min (l.j * w) l.b.columns)
+    (deep kind l.chunk (is l.alpha) (is l.beta) (floats l.a.reals.now) l.a.at (floats l.b.reals.now) l.b.at l.a.columns
+    (chunks l.chunk l.a.columns))
+    (need_of (tiling_of kind) l.chunk l.a.rows l.a.columns l.b.columns * per_element kind)
     (floats l.initial.c) (floats l.c) (floats l.initial.pack) (floats l.pack))

@@ -10,7 +10,7 @@ invariant-loop-i g l =
     let is = g.T.Element.held.is in
     let floats = g.T.Real.Real.floats in
     let w = (tiling_of kind).mc in
-    Turns w l.m l.i-end l.i (floats l.initial.c) (floats l.c)
-    (LoopLeaves kind l.lc (min (l.i * w) l.m) l.n
-    (rows_make kind (fate_of is l.fate) (is l.alpha) (floats l.a) l.la (floats l.initial.pack) l.asize l.kc) l.asize
+    Turns w l.a.rows l.i-end l.i (floats l.initial.c) (floats l.c)
+    (LoopLeaves kind l.lc (min (l.i * w) l.a.rows) l.n
+    (rows_make kind (fate_of is l.fate) (is l.alpha) (floats l.a.reals.now) l.a.at (floats l.initial.pack) l.asize l.a.columns) l.asize
     (floats l.initial.c) (floats l.c) (floats l.initial.pack) (floats l.pack))

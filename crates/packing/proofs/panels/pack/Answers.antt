@@ -14,17 +14,17 @@ use Rattle.packing.proofs.panels.pack.Goals.{After-REALS}
 offset : (g : Over) (c : After-REALS g) → c.args.w * c.REALS.result ≡ (packing_of g.T.Element.kind).floats c.args.w
 offset g c = row_floats g.T.Element.kind c.REALS.ensures g.met.T.Element.constants.reals c.args.w
 
-turn : (g : Over) (c : After-REALS g) → c.loop-ir.ir < chunks c.args.w c.args.m
+turn : (g : Over) (c : After-REALS g) → c.loop-ir.ir < chunks c.args.w c.args.a.rows
 turn g c = omega arith
 
-room : (g : Over) (c : After-REALS g) → c.loop-ir.ir * (c.args.kc * (c.args.w * c.REALS.result))
-    + c.args.kc * (packing_of g.T.Element.kind).floats c.args.w ≤ length c.loop-ir.pack
+room : (g : Over) (c : After-REALS g) → c.loop-ir.ir * (c.args.a.columns * (c.args.w * c.REALS.result))
+    + c.args.a.columns * (packing_of g.T.Element.kind).floats c.args.w ≤ length c.loop-ir.pack
 room g c =
     rw (offset g c)
     (omega (
       arith,
       c.requires.room,
-      next_fits (c.args.kc * (packing_of g.T.Element.kind).floats c.args.w) (turn g c),
+      next_fits (c.args.a.columns * (packing_of g.T.Element.kind).floats c.args.w) (turn g c),
       length_floats g.met.T.Real.Real.each c.args.pack.now,
       c.loop-ir.auto.pack,
     ))
@@ -34,10 +34,10 @@ rows g c =
     omega (
       arith,
       next_fits c.args.w (turn g c),
-      panels_most c.args.w c.args.m c.requires.some,
-      c.requires.most,
+      panels_most c.args.w c.args.a.rows c.requires.w_in_bounds.0,
+      c.requires.w_in_bounds.1,
       (kind_small g.T.Element.kind).mr_max,
-      c.requires.readable.modest.m_max,
+      c.args.a.readable.modest.m_max,
     )
 
 pub loop-ir-init : goal.loop-ir-init
@@ -49,12 +49,12 @@ overflow_mul-ir g c = omega (arith, room g c)
 pub overflow_mul-ir-in-loop-ir : goal.overflow_mul-ir-in-loop-ir
 overflow_mul-ir-in-loop-ir g c = omega (arith, rows g c)
 
-pub pack_panel-requires-clause-w_in_bounds : goal.pack_panel-requires-clause-w_in_bounds
-pack_panel-requires-clause-w_in_bounds g c = (
+pub pack_panel-requires : goal.pack_panel-requires
+pack_panel-requires g c = (
   omega (arith, room g c, length_floats g.met.T.Real.Real.each c.loop-ir.pack),
-  c.requires.most,
+  c.requires.w_in_bounds.1,
   rows g c,
-  c.requires.some,
+  c.requires.w_in_bounds.0,
 )
 
 pub loop-ir-preserved : goal.loop-ir-preserved

@@ -10,5 +10,5 @@ abbrev pub invariant-loop-ir : goal.invariant-loop-ir
 invariant-loop-ir g l =
     g.T.Real.Real.floats l.pack
     ≡ splice (g.T.Real.Real.floats l.initial.pack) 0
-    (packed (packing_of g.T.Element.kind) l.w l.kc l.ir
-    (padded (arith_of g.T.Element.kind) l.m (element_at g.T.Element.kind (g.T.Real.Real.floats l.a) l.la)))
+    (packed (packing_of g.T.Element.kind) l.w l.a.columns l.ir
+    (padded (arith_of g.T.Element.kind) l.a.rows (element_at g.T.Element.kind (g.T.Real.Real.floats l.a.reals.now) l.a.at)))

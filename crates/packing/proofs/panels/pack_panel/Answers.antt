@@ -18,7 +18,7 @@ room g c =
     rw (offset g c)
     (omega (
       arith,
-      c.requires.w_in_bounds.0,
+      c.requires.0,
       next_fits ((packing_of g.T.Element.kind).floats c.args.w) c.loop-p-test.true,
       length_floats g.met.T.Real.Real.each c.args.pack.now,
       c.loop-p.auto.pack,
@@ -27,16 +27,20 @@ room g c =
 pub loop-p-init : goal.loop-p-init
 loop-p-init g c = panel_none (packing_lawful g.T.Element.kind) _ _ _ _ _
 
-pub overflow_add-start : goal.overflow_add-start
-overflow_add-start g c = omega (arith, room g c)
+pub overflow_add-at : goal.overflow_add-at
+overflow_add-at g c = omega (arith, room g c)
 
 pub pack_row-requires-clause-w_in_bounds : goal.pack_row-requires-clause-w_in_bounds
 pack_row-requires-clause-w_in_bounds g c = (
-  omega (arith, room g c, length_floats g.met.T.Real.Real.each c.loop-p.pack),
-  c.requires.w_in_bounds.1,
-  c.requires.w_in_bounds.2,
+  omega (
+    arith,
+    room g (goal.at.pack_row-requires-clause-w_in_bounds g c).After-REALS,
+    length_floats g.met.T.Real.Real.each c.loop-p.pack,
+  ),
+  c.requires.1,
+  c.requires.2,
   c.loop-p-test.true,
-  c.requires.w_in_bounds.3,
+  c.requires.3,
 )
 
 pub loop-p-preserved : goal.loop-p-preserved

@@ -11,4 +11,4 @@ invariant-loop-p g l =
     g.T.Real.Real.floats l.pack
     ≡ splice (g.T.Real.Real.floats l.initial.pack) l.start
     (packed_panel (packing_of g.T.Element.kind) l.w l.p
-    (padded (arith_of g.T.Element.kind) l.m (element_at g.T.Element.kind (g.T.Real.Real.floats l.a) l.la)) l.first)
+    (padded (arith_of g.T.Element.kind) l.a.rows (element_at g.T.Element.kind (g.T.Real.Real.floats l.a.reals.now) l.a.at)) l.first)
