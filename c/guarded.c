@@ -1,6 +1,6 @@
 /* Calls whose slices lie against pages that nobody may touch: each slice ends right before such a page, then begins right
    after one. A and B cannot be written to, nor, where a call must be refused, C and the pack buffer. So a read or a store
-   outside the slices, or a store where none may be, ends this program. C is held against document 01's rules written out in C,
+   outside the slices, or a store where none may be, ends this program. C is held against rules 1 to 7 written out in C,
    everything else against what it was. From the repository's root:
 
      mkdir -p target

@@ -1,4 +1,4 @@
--- Document 01's examples P1 to P12 by arithmetic, each proved against the definition. Assumes nothing.
+-- The examples P1 to P12 by arithmetic, each proved against the definition. Assumes nothing.
 use Rattle.std.specs.Prelude.{ℕ, true, false, cond, ◌≡◌, refl, List, [], ◌∷◌, ◌++◌, leb, eqb, pos, Float}
 use Rattle.std.specs.Float.{nan, inf, fin, Format}
 use Rattle.std.specs.Float.Ieee.{binary32, binary64, eq, mul, add, sub, neg}

@@ -1,4 +1,4 @@
-//! The four kinds, so that one test serves all: document 01's numbers, our call and the oracle's, rules 2, 3, 4 and 6.
+//! The four kinds, so that one test serves all: each kind's numbers, our call and the oracle's, rules 2, 3, 4 and 6.
 
 use hewnspandrel::{Operand, Refusal};
 use matrixmultiply::CGemmOption::Standard;
@@ -64,7 +64,7 @@ pub struct Call<R> {
 pub trait Kind {
     type R: Real;
     const NAME: &'static str;
-    /// 0 to 3, in document 01's order.
+    /// 0 to 3, as the stored sample numbers the kinds.
     const NUMBER: u64;
     /// Reals in an element.
     const WIDTH: usize;

@@ -1,4 +1,4 @@
-//! "How one element of C is made", document 01's rules step by step.
+//! How one element of C is made: rules 1 to 7 of crates/rules/specs/Element.antt, step by step.
 
 use crate::kind::{Call, Element, Kind, Real};
 use hewnspandrel::Operand;

@@ -1,4 +1,4 @@
-//! Document 02, Item 1, step by step: panel files and the element at a place of a panel.
+//! Panel files and the element at a place of a panel, step by step, as docs/GUIDE.md has them.
 
 use crate::kind::Real;
 use hewnspandrel::{Header, Refusal};

@@ -121,7 +121,7 @@ impl Random {
         R::of_bits(sign | bits)
     }
 
-    /// Alpha or beta: one of those that document 01 treats apart, or any number.
+    /// Alpha or beta: one of those that the rules treat apart, or any number.
     pub fn factor<R: Real>(&mut self) -> R {
         match self.below(12) {
             0 | 1 => R::of(0.0),

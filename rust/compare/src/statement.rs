@@ -1,5 +1,4 @@
-//! The seven refusals, 2 by document 02 and the others by document 01, and the need: stated over places and not by corners
-//! or divisors.
+//! The seven refusals and the need, as docs/GUIDE.md has them: stated over places and not by corners or divisors.
 
 use crate::kind::{Call, Kind};
 use hewnspandrel::Operand;

@@ -1,4 +1,4 @@
-//! Random calls of all four kinds, held against the oracle bit for bit (NaN matching NaN), against document 01 written out
+//! Random calls of all four kinds, held against the oracle bit for bit (NaN matching NaN), against the rules written out
 //! once more, and against an own statement of the refusals.
 //!
 //! HEWNSPANDREL_CALLS is the number of calls, HEWNSPANDREL_SEED the seed; the same two give the same calls.

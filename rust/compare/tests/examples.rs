@@ -1,4 +1,4 @@
-//! Document 01's "Examples on both sides", for all the kinds that each names, through our crate, the oracle and the model.
+//! The examples P1 to P12 of crates/rules/specs/Examples.antt, and of layouts, for all the kinds that each names, through our crate, the oracle and the model.
 
 use compare::kind::{Call, Kind, Real, C, D, S, Z};
 use compare::model;

@@ -1,4 +1,4 @@
-//! Random panel files of both kinds, most of them damaged, and random places of panels, held against document 02 written out
+//! Random panel files of both kinds, most of them damaged, and random places of panels, held against the file's layout written out
 //! once more: the answer, and every bit of the destination and of the guards around it, NaN matching NaN where it is filled.
 //!
 //! HEWNSPANDREL_CALLS and HEWNSPANDREL_SEED as in differential.rs.
