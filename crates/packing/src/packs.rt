@@ -10,8 +10,8 @@ use element::elements::Element;
 use layout::operand::Operand;
 
 pub trait Packs: Element {
-    // One depth step of a panel of w rows from row `first` on, into pack from `start` on; +0 where rows are missing. The
-    // matrix comes in its parts: where it is a `Matrix`, an impl gets no proof, since its bound has ghost members.
+    // One depth step of a panel of w rows from row `first` on, into pack from `start` on; +0 where rows are missing. The matrix comes
+    // in its parts: tried with a `Matrix`, the impls get no proof, since that type's bound has ghost members.
     fn pack_row(
         pack: &mut [Self::Real],
         start: usize,
