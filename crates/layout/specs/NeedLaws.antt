@@ -2,9 +2,10 @@
 use Rattle.std.specs.Prelude.{◌≡◌, ℕ, zero, suc, ◌+◌, ◌-◌, ◌*◌, ◌/◌, ◌%◌, ◌<◌, ◌≤◌, min, ◌⊎◌}
 use Rattle.std.specs.Prelude.{refl, Result, Ok, Err}
 use Rattle.std.proofs.Common.{sym, ap, ◌∙◌, inl, inr, zero-le, le_trans, mul-le-mul, mul-le-mul_right, add-le-add, div-mul-le_self}
-use Rattle.std.proofs.Common.{div-add-mod', add-mul, one-mul, le-div_iff_mul-le, arith}
+use Rattle.std.proofs.Common.{div-add-mod', mod-lt, add-mul, one-mul, le-div_iff_mul-le, arith}
 use Rattle.std.proofs.Math.Nat.{min-le_left, min-le_right, le-min, div-eq_of_lt-le}
 use Rattle.refusal.specs.declared.Refusal.{Refusal}
+use Rattle.refusal.specs.declared.Refusal.TheVariants.{TooLarge}
 use Rattle.refusal.specs.Numbers.{number_of}
 use Rattle.refusal.proofs.NumberLaws.{same_refusal, refusal_not_zero}
 use Rattle.refusal.specs.Order.{done}
@@ -24,6 +25,20 @@ multiple_up x t z h low high e =
     whole
     ∙ sym (ap (λ q. q * t) (div-eq_of_lt-le {k = z / t} t (omega (arith, whole))
     (omega (arith, whole, add-mul (z / t) 1 t, one-mul t))))
+
+-- the same by a quotient and its rest: no rest, and one
+pub round_exact : (x t : ℕ) → 0 < t → x % t ≡ 0 → x / t * t ≡ round_up x t
+unfolding round_up
+round_exact x t h e =
+    sym (ap (λ q. q * t) (div-eq_of_lt-le {k = x / t} t (omega (arith, div-mul-le_self x t))
+    (omega (arith, div-add-mod' x t, add-mul (x / t) 1 t, one-mul t))))
+
+pub round_more : (x t : ℕ) → 0 < t → 0 < x % t → (x / t + 1) * t ≡ round_up x t
+unfolding round_up
+round_more x t h k =
+    sym (ap (λ q. q * t) (div-eq_of_lt-le {k = x / t + 1} t
+    (omega (arith, div-add-mod' x t, add-mul (x / t) 1 t, one-mul t))
+    (omega (arith, div-add-mod' x t, mod-lt x h, add-mul (x / t + 1) 1 t, add-mul (x / t) 1 t, one-mul t))))
 
 pub round_lt : (x t : ℕ) → 0 < t → round_up x t < x + t
 unfolding round_up
@@ -67,6 +82,25 @@ need_idle s kc (suc m) (suc k) zero e = refl
 need_idle s kc (suc m) (suc k) (suc n) (inl e) = absurd (omega arith)
 need_idle s kc (suc m) (suc k) (suc n) (inr (inl e)) = absurd (omega (arith, e.1))
 need_idle s kc (suc m) (suc k) (suc n) (inr (inr e)) = absurd (omega (arith, e.2))
+
+-- the same of each size
+pub need_no_m : (s : Tiling) (kc m k n : ℕ) → m ≡ 0 → need_of s kc m k n ≡ 0
+unfolding need_of
+need_no_m s kc zero k n h = refl
+need_no_m s kc (suc m) k n h = absurd (omega arith)
+
+pub need_no_k : (s : Tiling) (kc m k n : ℕ) → k ≡ 0 → need_of s kc m k n ≡ 0
+unfolding need_of
+need_no_k s kc zero k n h = refl
+need_no_k s kc (suc m) zero n h = refl
+need_no_k s kc (suc m) (suc k) n h = absurd (omega arith)
+
+pub need_no_n : (s : Tiling) (kc m k n : ℕ) → n ≡ 0 → need_of s kc m k n ≡ 0
+unfolding need_of
+need_no_n s kc zero k n h = refl
+need_no_n s kc (suc m) zero n h = refl
+need_no_n s kc (suc m) (suc k) zero h = refl
+need_no_n s kc (suc m) (suc k) (suc n) h = absurd (omega arith)
 
 -- a piece's need is at most the whole's
 pub need_mono : (s : Tiling) (kc : ℕ) → 0 < s.mr → 0 < s.nr → (m m' k k' n n' : ℕ) → m ≤ m' → k ≤ k' → n ≤ n'
@@ -154,6 +188,13 @@ packed_max s h kc m k n l = mul-le-mul (le_trans (min-le_right k kc) l) (sides_m
 
 one_need : (m k n : ℕ) → One (NeedSays m k n)
 one_need m k n = (first_stage (Large m k n) 1 (omega arith)).one done one_done
+
+pub answer_large : (kind : Kind) (m k n : ℕ) → Large m k n → PackLengthIs kind m k n (Err TooLarge)
+answer_large kind m k n h = inl (h, refl)
+
+pub answer_length : (kind : Kind) (m k n x : ℕ) → (Large m k n → ⊥) → x ≡ need_of (tiling_of kind) depth_chunk m k n
+    → PackLengthIs kind m k n (Ok x)
+answer_length kind m k n x f e = (inr (f, refl), e)
 
 -- any two answers that the contract allows are equal
 pub pack_length_same : (kind : Kind) (m k n : ℕ) (r r' : Result ℕ Refusal) → PackLengthIs kind m k n r → PackLengthIs kind m k n r' → r ≡ r'

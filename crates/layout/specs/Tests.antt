@@ -95,6 +95,15 @@ none_large hm hk hn (inl x) = omega arith
 none_large hm hk hn (inr (inl x)) = omega arith
 none_large hm hk hn (inr (inr x)) = omega arith
 
+-- a last test, where the sizes before are not above
+pub tells_large : {m k n : ℕ} → m ≤ 65536 → k ≤ 65536 → Tells (nat_lt 65536 n) (Large m k n)
+tells_large {m} {k} {n} hm hk = tells_above (λ h. inr (inr h)) last
+  where
+    last : Large m k n → 65536 < n
+    last (inl x) = omega arith
+    last (inr (inl x)) = omega arith
+    last (inr (inr x)) = x
+
 -- what the two tests leave
 pub modest : {m n : ℕ} (o : Operand) → m ≤ 65536 → n ≤ 65536 → (Long m n o → ⊥) → Modest m n o
 modest o hm hn f = record {

@@ -1,15 +1,39 @@
--- The element at a place of a panel that was read. Assumes nothing.
-use Rattle.std.specs.Prelude.{ℕ, ◌+◌, ◌*◌, ◌<◌, ◌≡◌, List, length, get_or, Float, Ok}
-use Rattle.std.proofs.Common.{sym, ap, ◌∙◌, subst, zero-add, suc-mul, mul-le-mul_right, arith}
+-- What the reader's steps come to, and the element at a place. Assumes nothing.
+use Rattle.std.specs.Prelude.{ℕ, ◌+◌, ◌*◌, ◌≤◌, ◌<◌, ◌≡◌, refl, ◌⊎◌, List, length, get_or, Float, Ok}
+use Rattle.std.proofs.Common.{sym, ap, ◌∙◌, subst, inl, inr, zero-add, suc-mul, mul-le-mul_right, arith}
 use Rattle.std.specs.Float.{nan, Format}
 use Rattle.refusal.specs.Order.{done}
-use Rattle.refusal.specs.OrderLaws.{One, one_done, first_stage}
-use Rattle.rules.specs.Lists.{splice}
+use Rattle.refusal.specs.OrderLaws.{One, one_done, first_stage, first_passed}
+use Rattle.rules.specs.Lists.{tab, splice}
 use Rattle.rules.specs.ListLaws.{get_or_in, get_or-tab, length-tab}
+use Rattle.layout.specs.Tests.{not_above}
 use Rattle.panel.specs.declared.file.Header.{Header}
 use Rattle.panel.specs.declared.file.Shape.{Shape}
-use Rattle.panel.specs.File.{elements_of, elements_in, element_in, panel_in}
-use Rattle.panel.specs.Reader.{ReadOutcome, ElementSays, in_panel}
+use Rattle.panel.specs.File.{byte_of, elements_of, elements_in, element_in, panel_in, BodyThen}
+use Rattle.panel.specs.Heads.{HeaderOr}
+use Rattle.panel.specs.HeadLaws.{judged_passed}
+use Rattle.panel.specs.Reader.{ReadSays, ReadOutcome, ElementSays, in_panel}
+
+room_enough : (s : List ℕ) (kind room : ℕ) → BodyThen s kind room done 0 → elements_in s ≤ room
+room_enough s kind room h =
+    let asked = first_passed (omega arith) h in
+    let long = first_passed (omega arith) asked.1 in
+    not_above room (elements_in s) (first_passed (omega arith) long.1).0
+
+-- ---- an accepted file: what its header, its number of elements and the filled destination say
+
+module _ (f : Format) (s : List ℕ) (D : List Float) (h : Header) (j : HeaderOr (ReadSays f s (length D)) s (Ok h)) {n : ℕ}
+    (m : n ≡ elements_of h.shape) where
+  count_is : n ≡ elements_in s
+  count_is = m ∙ ap (λ (x : Header). elements_of x.shape) j.1
+
+  pub fill_fits : n ≤ length D
+  fill_fits =
+      let enough = room_enough s (byte_of f) (length D) (judged_passed s (byte_of f) (length D) j.0) in
+      subst (λ (k : ℕ). k ≤ length D) (sym count_is) enough
+
+  pub read_done : {E : List Float} → E ≡ splice D 0 (tab n (element_in f s)) → ReadOutcome f s D E (Ok h)
+  read_done q = (j.0, j.1, q ∙ ap (λ (k : ℕ). splice D 0 (tab k (element_in f s))) count_is)
 
 -- ---- a place
 
@@ -28,3 +52,13 @@ read_place f s D E h p i j hi hj =
 
 pub one_place : (numbers : List Float) (s : Shape) (i j : ℕ) → One (ElementSays numbers s i j)
 one_place numbers s i j = (first_stage _ 30 (omega arith)).one done one_done
+
+-- inside the shape and the numbers
+pub element_found : (numbers : List Float) (s : Shape) (i j : ℕ) → i < s.rows → j < s.columns → i * s.columns + j < length numbers
+    → ElementSays numbers s i j 0
+element_found numbers s i j p q r = inr (no, refl)
+  where
+    no : (s.rows ≤ i) ⊎ ((s.columns ≤ j) ⊎ (length numbers ≤ i * s.columns + j)) → ⊥
+    no (inl h) = omega arith
+    no (inr (inl h)) = omega arith
+    no (inr (inr h)) = omega arith
