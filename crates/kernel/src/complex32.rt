@@ -45,7 +45,7 @@ impl Kernel for Complex32 {
             ((packing_of C32).lane a.now (tiling_of C32).mr) ((packing_of C32).lane b.now (tiling_of C32).nr) kc)
             c.old c.new }
     {
-        let ab = kernel::<Complex32, MR, NR>(kc, alpha, a, b, [0.0; MR], rows);
+        let ab = kernel::<Complex32, MR, NR>(kc, alpha, a, b, rows);
         c_to_masked_ab_beta_c(ab, fate, c, lc.transpose(), cols, rows);
     }
 }

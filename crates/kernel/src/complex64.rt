@@ -46,7 +46,7 @@ impl Kernel for Complex64 {
             ((packing_of C64).lane a.now (tiling_of C64).mr) ((packing_of C64).lane b.now (tiling_of C64).nr) kc)
             c.old c.new }
     {
-        let ab = kernel::<Complex64, MR, NR>(kc, alpha, a, b, [0.0; MR], rows);
+        let ab = kernel::<Complex64, MR, NR>(kc, alpha, a, b, rows);
         c_to_masked_ab_beta_c(ab, fate, c, lc.transpose(), cols, rows);
     }
 }
