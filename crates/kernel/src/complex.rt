@@ -12,7 +12,7 @@ use crate::reads::reals_into;
 use element::real::Real;
 
 // What one depth step reads: reals and imaginaries of A's lanes, then of B's. It is passed on by its fields, and not whole: a call owes
-// that a struct of arrays of a type parameter is smaller than 2^63 bytes, which no clause can say.
+// that the struct is smaller than 2^63 bytes, its size is rounded up to how R is aligned, and no clause speaks of an alignment.
 #[derive(Clone, Copy)]
 struct Parts<R, const MR: usize, const NR: usize> {
     pp: [R; MR],

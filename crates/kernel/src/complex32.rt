@@ -1,4 +1,5 @@
-// The tile of complex f32. Rust: `masked_kernel`, gemm.rs, and the tile's sides in cgemm_kernel.rs.
+// The tile of complex f32. Its impl is its own, not one over any real, because a kind's arithmetic is found by its `Kind`. Rust:
+// `masked_kernel`, gemm.rs, and the tile's sides in cgemm_kernel.rs.
 ghost use Rattle.std.specs.Prelude.{◌*◌, ◌≤◌, length};
 ghost use Rattle.rules.specs.Held.{float};
 ghost use Rattle.rules.specs.Slice.{Updated, Block};
