@@ -9,29 +9,10 @@ ghost use Rattle.layout.specs.Operands.{Writable};
 
 use element::elements::Element;
 use element::fate::Fate;
+use kernel::masked::update;
 use layout::operand::Operand;
 
-// The element (i,j) of C: beta times it, or +0 where beta is zero.
-fn scale_one<T: Element>(
-    m: usize,
-    n: usize,
-    fate: Fate<T>,
-    c: &mut [T::Real],
-    lc: Operand,
-    i: usize,
-    j: usize,
-)
-    requires writable { Writable m n lc ((view_of T.kind).count (length (T.Real.floats c.old))) }
-    requires i_lt_m { (i < m) × (j < n) }
-    ensures { Updated (view_of T.kind) (index_of lc) (Region i 1 j 1)
-        (λ i j. scaled (arith_of T.kind) (fate_of T.held.is fate)) (T.Real.floats c.old) (T.Real.floats c.new) }
-{
-    let at = lc.place(i, j);
-    let old = T::read(c, at);
-    fate.scaled(old).write(c, at);
-}
-
-// Row i of C.
+// Row i of C: beta times it, or +0 where beta is zero.
 fn scale_row<T: Element>(
     m: usize,
     n: usize,
@@ -46,7 +27,7 @@ fn scale_row<T: Element>(
         (λ i j. scaled (arith_of T.kind) (fate_of T.held.is fate)) (T.Real.floats c.old) (T.Real.floats c.new) }
 {
     for j in 0..n {
-        scale_one(m, n, fate, c, lc, i, j);
+        update(c, lc, m, n, i, j, |old: T| fate.scaled(old));
     }
 }
 

@@ -1,6 +1,6 @@
 -- Arrays of one number, and the room that arrays of arrays take. Assumes nothing.
 use Rattle.std.specs.Prelude.{◌≡◌, refl, ℕ, suc, zero, ◌*◌, ◌<◌, List, ◌∷◌, get_or}
-use Rattle.std.proofs.Common.{ap, ◌∙◌, sym, arith, mul-le-mul_right, mul_assoc, mul_comm, one-mul}
+use Rattle.std.proofs.Common.{ap, ◌∙◌, sym, mul_assoc, mul_comm}
 use Rattle.std.proofs.Math.ListN.{replicate}
 use Rattle.std.specs.Prelude.{Float}
 use Rattle.rules.specs.Element.{Complex}
@@ -10,12 +10,9 @@ use Rattle.rules.specs.ListLaws.{get_or-tab, tab_ext}
 use Rattle.loops.specs.Tiles.{at, line, lines}
 use Rattle.kernel.specs.Parts.{both}
 
--- an array of h arrays of w takes as much as one of w arrays of h, and an array of h no more
+-- an array of h arrays of w takes as much as one of w arrays of h
 pub room_turned : (h w s : ℕ) → h * (w * s) < 9223372036854775808 → w * (h * s) < 9223372036854775808
 room_turned h w s l = rw (← mul_assoc w h s, mul_comm w h, mul_assoc h w s) l
-
-pub room_within : (h w s : ℕ) → 0 < w → h * (w * s) < 9223372036854775808 → h * s < 9223372036854775808
-room_within h w s some l = omega (arith, room_turned h w s l, mul-le-mul_right (h * s) some, one-mul (h * s))
 
 replicate_tab : {A : Type 0} (n : ℕ) (x : A) → replicate n x ≡ tab n (λ k. x)
 replicate_tab zero x = refl

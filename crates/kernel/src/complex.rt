@@ -1,5 +1,6 @@
 // The tile kernel of the complex kinds: rules 1, 3 and 4. Rust: `kernel_fallback_impl_complex` in cgemm_common.rs.
-ghost use Rattle.std.specs.Prelude.{◌≡◌, ◌+◌, ◌*◌, ◌≤◌, length};
+ghost use Rattle.std.specs.Prelude.{◌≡◌, ◌+◌, ◌*◌, ◌^◌, ◌<◌, ◌≤◌, length};
+ghost use Rattle.std.specs.Mem.{type_size};
 ghost use Rattle.rules.specs.Element.{complex};
 ghost use Rattle.loops.specs.Panels.{complex_packing, padded};
 ghost use Rattle.loops.specs.Tiles.{up_to, at, line, cell, columns, stepped, summed};
@@ -11,7 +12,7 @@ use crate::reads::reals_into;
 use element::real::Real;
 
 // What one depth step reads: reals and imaginaries of A's lanes, then of B's. It is passed on by its fields, and not whole: a call owes
-// that a struct of arrays of a type parameter is smaller than 2^63 bytes, which no clause can say.
+// that the struct is smaller than 2^63 bytes, its size is rounded up to how R is aligned, and no clause speaks of an alignment.
 #[derive(Clone, Copy)]
 struct Parts<R, const MR: usize, const NR: usize> {
     pp: [R; MR],
@@ -97,11 +98,12 @@ fn sums<Z: Paired, const MR: usize, const NR: usize>(
     t
 }
 
-// The reals of a column; old has room for them.
-fn reals_of<Z: Paired, const MR: usize>(t: [Z; MR], old: [Z::Real; MR]) -> [Z::Real; MR]
+// The reals of a column.
+fn reals_of<Z: Paired, const MR: usize>(t: [Z; MR]) -> [Z::Real; MR]
+    requires { MR * type_size Z.Real.row < 2 ^ 63 }
     ensures { result ≡ line Z.Real.held MR (λ i. (at Z.held t i).re) }
 {
-    let mut re = old;
+    let mut re = [<Z::Real as Real>::zero(); MR];
     for i in 0..MR {
         re[i] = t[i].re();
     }
@@ -109,10 +111,11 @@ fn reals_of<Z: Paired, const MR: usize>(t: [Z; MR], old: [Z::Real; MR]) -> [Z::R
 }
 
 // The imaginaries of a column.
-fn imaginaries_of<Z: Paired, const MR: usize>(t: [Z; MR], old: [Z::Real; MR]) -> [Z::Real; MR]
+fn imaginaries_of<Z: Paired, const MR: usize>(t: [Z; MR]) -> [Z::Real; MR]
+    requires { MR * type_size Z.Real.row < 2 ^ 63 }
     ensures { result ≡ line Z.Real.held MR (λ i. (at Z.held t i).im) }
 {
-    let mut im = old;
+    let mut im = [<Z::Real as Real>::zero(); MR];
     for i in 0..MR {
         im[i] = t[i].im();
     }
@@ -121,18 +124,14 @@ fn imaginaries_of<Z: Paired, const MR: usize>(t: [Z; MR], old: [Z::Real; MR]) ->
 
 // The first rows of a column times alpha, alpha on the left, and +0 in the others. The sums are read apart, and by a count: where they are
 // read as records, the compiler pairs each real with its imaginary in the depth loop too, and that takes nearly twice the time.
-fn column_times<Z: Paired, const MR: usize>(
-    alpha: Z,
-    t: [Z; MR],
-    old: [Z::Real; MR],
-    rows: usize,
-) -> [Z; MR]
-    requires { rows ≤ MR }
+fn column_times<Z: Paired, const MR: usize>(alpha: Z, t: [Z; MR], rows: usize) -> [Z; MR]
+    requires room { MR * type_size Z.Real.row < 2 ^ 63 }
+    requires rows_le_mr { rows ≤ MR }
     ensures { result ≡ line Z.held MR (up_to (complex Z.Real.format) rows (
         λ i. (complex Z.Real.format).mul (Z.held.is alpha) (at Z.held t i))) }
 {
-    let re = reals_of(t, old);
-    let im = imaginaries_of(t, old);
+    let re = reals_of(t);
+    let im = imaginaries_of(t);
     let mut u = [Z::zero(); MR];
     for i in 0..rows {
         u[i] = alpha.mul(Z::pair(re[i], im[i]));
@@ -144,34 +143,34 @@ fn column_times<Z: Paired, const MR: usize>(
 fn times<Z: Paired, const MR: usize, const NR: usize>(
     alpha: Z,
     t: [[Z; MR]; NR],
-    old: [Z::Real; MR],
     rows: usize,
 ) -> [[Z; MR]; NR]
-    requires { rows ≤ MR }
+    requires room { MR * type_size Z.Real.row < 2 ^ 63 }
+    requires rows_le_mr { rows ≤ MR }
     ensures { result ≡ columns (complex Z.Real.format) Z.held MR NR (padded (complex Z.Real.format) rows (
         λ i j. (complex Z.Real.format).mul (Z.held.is alpha) (cell Z.held t j i))) }
 {
     let mut u = t;
     for j in 0..NR {
-        u[j] = column_times(alpha, u[j], old, rows);
+        u[j] = column_times(alpha, u[j], rows);
     }
     u
 }
 
 // Alpha times the product of two packed panels of depth kc in the first rows of the tile, which is an array of columns as in the Rust, and
-// +0 in the others. The numbers in old count for nothing: it stands for the room that a column's reals take, which no clause can say.
+// +0 in the others.
 pub fn kernel<Z: Paired, const MR: usize, const NR: usize>(
     kc: usize,
     alpha: Z,
     a: &[Z::Real],
     b: &[Z::Real],
-    old: [Z::Real; MR],
     rows: usize,
 ) -> [[Z; MR]; NR]
-    requires { (kc * (MR + MR) ≤ length a.now) × (kc * (NR + NR) ≤ length b.now) × (rows ≤ MR) }
+    requires room { MR * type_size Z.Real.row < 2 ^ 63 }
+    requires mr_in_bounds { (kc * (MR + MR) ≤ length a.now) × (kc * (NR + NR) ≤ length b.now) × (rows ≤ MR) }
     ensures { result ≡ columns (complex Z.Real.format) Z.held MR NR (padded (complex Z.Real.format) rows (
         part (complex Z.Real.format) (Z.held.is alpha)
         (complex_packing.lane (Z.Real.floats a.now) MR) (complex_packing.lane (Z.Real.floats b.now) NR) kc)) }
 {
-    times(alpha, sums(kc, a, b), old, rows)
+    times(alpha, sums(kc, a, b), rows)
 }

@@ -1,5 +1,6 @@
 // Derived from crates/kernel/src/complex32.rt by tools/derive: edit that.
-// The tile of complex f64. Rust: `masked_kernel`, gemm.rs, and the tile's sides in cgemm_kernel.rs.
+// The tile of complex f64. Its impl is its own, not one over any real, because a kind's arithmetic is found by its `Kind`. Rust:
+// `masked_kernel`, gemm.rs, and the tile's sides in cgemm_kernel.rs.
 ghost use Rattle.std.specs.Prelude.{◌*◌, ◌≤◌, length};
 ghost use Rattle.rules.specs.Held.{float};
 ghost use Rattle.rules.specs.Slice.{Updated, Block};
@@ -46,7 +47,7 @@ impl Kernel for Complex64 {
             ((packing_of C64).lane a.now (tiling_of C64).mr) ((packing_of C64).lane b.now (tiling_of C64).nr) kc)
             c.old c.new }
     {
-        let ab = kernel::<Complex64, MR, NR>(kc, alpha, a, b, [0.0; MR], rows);
+        let ab = kernel::<Complex64, MR, NR>(kc, alpha, a, b, rows);
         c_to_masked_ab_beta_c(ab, fate, c, lc.transpose(), cols, rows);
     }
 }

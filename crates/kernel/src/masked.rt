@@ -1,5 +1,5 @@
 // A tile into C: what is past its lines and their numbers is dropped. Rust: `c_to_masked_ab_beta_c`, gemm.rs.
-ghost use Rattle.std.specs.Prelude.{◌<◌, ◌≤◌, length};
+ghost use Rattle.std.specs.Prelude.{◌≡◌, ◌<◌, ◌≤◌, length};
 ghost use Rattle.rules.specs.Element.{put};
 ghost use Rattle.rules.specs.Slice.{Updated, Block, Region};
 ghost use Rattle.element.specs.Fates.{fate_of};
@@ -12,26 +12,26 @@ use element::elements::Element;
 use element::fate::Fate;
 use layout::operand::Operand;
 
-// The element (i,j) of rows by cols of C: its part over old C.
-fn put_one<T: Element>(
-    part: T,
-    fate: Fate<T>,
+// The element (i,j) of rows by cols of C, changed.
+pub fn update<T: Element, F: Fn(T) -> T>(
     c: &mut [T::Real],
     lc: Operand,
     rows: usize,
     cols: usize,
     i: usize,
     j: usize,
+    change: F,
 )
     requires writable { Writable rows cols lc ((view_of T.kind).count (length (T.Real.floats c.old))) }
     requires i_lt_rows { (i < rows) × (j < cols) }
-    ensures { Updated (view_of T.kind) (index_of lc) (Region i 1 j 1)
-        (λ i j. put (arith_of T.kind) (fate_of T.held.is fate) (T.held.is part))
-        (T.Real.floats c.old) (T.Real.floats c.new) }
+    requires changes { (x : T) → F.pre change x }
+    ensures { (f : (arith_of T.kind).E → (arith_of T.kind).E)
+        → ((x : T) (y : T) → F.post change x y → T.held.is y ≡ f (T.held.is x))
+        → Updated (view_of T.kind) (index_of lc) (Region i 1 j 1) (λ i j. f) (T.Real.floats c.old) (T.Real.floats c.new) }
 {
     let at = lc.place(i, j);
     let old = T::read(c, at);
-    fate.put(part, old).write(c, at);
+    change(old).write(c, at);
 }
 
 // Row i of C: the first cols numbers of a line. The loop goes over the whole line: its length is then known, and it is unrolled.
@@ -52,7 +52,8 @@ fn put_row<T: Element, const N: usize>(
 {
     for j in 0..N {
         if j < cols {
-            put_one(ab[j], fate, c, lc, rows, cols, i, j);
+            let part = ab[j];
+            update(c, lc, rows, cols, i, j, |old: T| fate.put(part, old));
         }
     }
 }

@@ -43,7 +43,7 @@ impl<R: Real> Paired for Complex<R> {
     ghost held = { complex_held R.held };
 
     fn pair(re: R, im: R) -> Complex<R> {
-        Complex { re: re, im: im }
+        Complex { re, im }
     }
 
     fn re(self) -> R {

@@ -11,7 +11,5 @@ pub fn reals_into<R: Real, const N: usize>(x: &mut [R; N], s: &[R], first: usize
     requires { first + N ≤ length s.now }
     ensures { x.new ≡ line R.held N (λ i. get_or (R.floats s.now) (first + i) nan) }
 {
-    for i in 0..N {
-        x[i] = s[first + i];
-    }
+    x.copy_from_slice(&s[first..first + N]);
 }

@@ -1,6 +1,7 @@
 // The tile kernel of the real kinds: rules 1, 2 and 4. It holds columns while it sums, as the Rust's does, and turns them at its end. Rust:
 // `kernel_fallback_impl` in sgemm_kernel.rs.
 ghost use Rattle.std.specs.Prelude.{◌≡◌, ◌+◌, ◌*◌, ◌^◌, ◌<◌, ◌≤◌, length};
+ghost use Rattle.std.specs.Mem.{type_size};
 ghost use Rattle.rules.specs.Element.{real};
 ghost use Rattle.loops.specs.Panels.{real_packing, padded};
 ghost use Rattle.loops.specs.Tiles.{at, line, lines, cell, stepped, summed};
@@ -144,7 +145,6 @@ fn times<R: Real, const MR: usize, const NR: usize>(
 }
 
 // Alpha times the product of two packed panels of depth kc in the first rows of the tile, which is an array of rows, and +0 in the others.
-// A row has a number at least: else the tile's room would not bound that of its columns.
 pub fn kernel<R: Real, const MR: usize, const NR: usize>(
     kc: usize,
     alpha: R,
@@ -152,8 +152,9 @@ pub fn kernel<R: Real, const MR: usize, const NR: usize>(
     b: &[R],
     rows: usize,
 ) -> [[R; NR]; MR]
+    requires room { MR * type_size R.row < 2 ^ 63 }
     requires mr_in_bounds { (kc * MR ≤ length a.now) × (kc * NR ≤ length b.now) }
-    requires rows_le_mr { (rows ≤ MR) × (0 < NR) }
+    requires rows_le_mr { rows ≤ MR }
     ensures { result ≡ lines R.held MR NR (padded (real R.format) rows (part (real R.format) (R.held.is alpha)
         (real_packing.lane (R.floats a.now) MR) (real_packing.lane (R.floats b.now) NR) kc)) }
 {

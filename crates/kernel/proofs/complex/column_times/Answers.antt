@@ -17,7 +17,7 @@ loop-i-preserved g c =
     let re = line_read real g.row.MR (λ k. (at held a.t k).re) c.reals_of-re.ensures i (omega arith) c.index-re-i.result in
     let im = line_read real g.row.MR (λ k. (at held a.t k).im) c.imaginaries_of-im.ensures i (omega arith) c.index-im-i.result in
     let both : held.is c.pair.result ≡ at held a.t i = c.pair.ensures ∙ (λ s. record { re = re s; im = im s }) in
-    lane_more ar held g.row.MR a.rows (λ k. ar.mul (held.is a.alpha) (at held a.t k)) i c.requires c.loop-i-test.true l.invariant
+    lane_more ar held g.row.MR a.rows (λ k. ar.mul (held.is a.alpha) (at held a.t k)) i c.requires.rows_le_mr c.loop-i-test.true l.invariant
     (sym (g.met.Z.Paired.kept c.mul.result) ∙ ap held.of (c.mul.ensures ∙ ap (ar.mul (held.is a.alpha)) both))
 
 pub returns : goal.returns

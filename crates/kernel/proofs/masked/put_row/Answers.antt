@@ -1,5 +1,5 @@
 -- `put_row` meets its contract: the row's elements before j and inside the mask are put. Assumes nothing.
-use Rattle.std.proofs.Common.{◌≡◌, ℕ, ◌+◌, ◌<◌, ◌∙◌, length, min, ap, arith}
+use Rattle.std.proofs.Common.{rules, ◌≡◌, ℕ, ◌+◌, ◌<◌, ◌∙◌, length, min, ap, arith}
 use Rattle.std.proofs.lemmas.List.{get_or_default}
 use Rattle.rules.specs.Element.{put}
 use Rattle.rules.specs.SliceLaws.{agreeing}
@@ -27,8 +27,8 @@ loop-j-preserved g c =
         rw w.c-is (cell_masked (lawful kind) c.requires.writable f a.i j c.requires.i_lt_rows.0 w.if-j-cols.true c.loop-j.invariant.1
             (agreeing (view_of kind) (index_of a.lc) (λ i k o x. let e : j ≡ k = omega arith in
             let b : j < length a.ab = omega arith in
-            ap (λ (z : g.row.T.Denot). put (arith_of kind) fate (held.is z) x) (get_or_default a.ab j _ held.none b)
-            ∙ ap (λ (z : ℕ). f i z x) e) w.put_one.ensures)),
+            ap (λ (z : g.row.T.Denot). put (arith_of kind) fate (held.is z) x) (w.index-ab-j.is ∙ get_or_default a.ab j _ held.none b)
+            ∙ ap (λ (z : ℕ). f i z x) e) (w.update.ensures (put (arith_of kind) fate (held.is w.index-ab-j.result)) (λ x y made. search (rules, made))))),
       )
       | else-j-cols w ↦
           let e : min j a.cols ≡ min (j + 1) a.cols = omega arith in (c.loop-j.invariant.0, rw w.c-is (rw e at c.loop-j.invariant.1))

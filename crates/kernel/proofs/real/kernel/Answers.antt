@@ -3,14 +3,14 @@ use Rattle.std.proofs.Common.{◌∙◌, rules}
 use Rattle.rules.specs.Element.{real}
 use Rattle.loops.specs.Panels.{real_packing}
 use Rattle.loops.specs.TileLaws.{lines_ext, summed_part}
-use Rattle.kernel.proofs.Laws.{room_turned, room_within}
+use Rattle.kernel.proofs.Laws.{room_turned}
 use Rattle.kernel.proofs.real.kernel.Goals as goal
 
 pub sums-requires : goal.sums-requires
-sums-requires g c = search (rules, room_turned, room_within)
+sums-requires g c = search (rules, room_turned)
 
 pub times-requires : goal.times-requires
-times-requires g c = search (rules, room_turned, room_within)
+times-requires g c = search (rules, room_turned)
 
 pub returns : goal.returns
 returns g c =
