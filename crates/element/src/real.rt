@@ -14,7 +14,7 @@ pub trait Real: Copy {
     // A slice of reals as floats.
     ghost floats: { List Self → List Float };
 
-    // How long a slice is. Where R is a type parameter its size is unknown, so `s.len()` there is under no bound: the bound comes with this.
+    // How long a slice is. The size of a type parameter is unknown, so nothing bounds `s.len()` there: the bound comes with this.
     fn count(s: &[Self]) -> usize
         ensures { (result ≡ length s.now) × (result < 2 ^ 62) };
 
