@@ -42,7 +42,7 @@ Demand3 = (kind : Kind) (pack : ℕ) (q : Call kind) (A B : List Float) (slice :
     (g : Grid (chunk q) q.over.m q.over.n q.over.k) → Taken pack q A B (slice 0)
     → InTurn q A B g.turns (grid_piece g) pack slice number → Ends q A B g.turns slice number
 
--- ---- "A row's trouble stays in its row", in document 01's words, of two calls q and r
+-- ---- "A row's trouble stays in its row", of two calls q and r
 
 -- "equal sizes, alpha, beta and any further setting": all that a call names but where its matrices lie
 pub record Alike {kind : Kind} (q r : Call kind) : Type 0 where

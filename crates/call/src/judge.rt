@@ -80,7 +80,7 @@ impl Matrices {
         Ok(())
     }
 
-    // The first refusal that applies; pack is the length of the pack buffer in floats.
+    // The first refusal that applies, or done; pack is the length of the pack buffer in floats.
     #[tactic(auto, unfolding(crate::specs::Verdict::Judged))]
     pub fn judge(self, kind: Kind, pack: usize, floats: Lengths) -> Result<(), Refusal>
         ensures { Judged kind pack self floats done (answer_number result) }

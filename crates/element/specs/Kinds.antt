@@ -1,9 +1,16 @@
 -- The four kinds: arithmetic, how elements lie in a slice, chunks and tiles; and the depth chunk. Definitions only.
 use Rattle.std.specs.Prelude.{◌≡◌, ℕ}
-use Rattle.std.specs.Float.{binary32, binary64}
+use Rattle.std.specs.Float.{Format, binary32, binary64}
 use Rattle.rules.specs.{Element.Arith, Element.real, Element.complex, Slice.View, Slice.real_view, Slice.complex_view}
 use Rattle.element.specs.declared.kind.{Kind.Kind, Tiling.Tiling}
 use Rattle.element.specs.declared.kind.Kind.TheVariants.{F32, F64, C32, C64}
+
+-- the format of a kind's floats
+abbrev pub format_of : Kind → Format
+format_of F32 = binary32
+format_of F64 = binary64
+format_of C32 = binary32
+format_of C64 = binary64
 
 abbrev pub arith_of : Kind → Arith
 arith_of F32 = real binary32

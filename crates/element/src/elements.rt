@@ -2,7 +2,7 @@
 ghost use Rattle.std.specs.Prelude.{◌≡◌, ◌<◌, ℕ, length};
 ghost use Rattle.rules.specs.Held.{Held};
 ghost use Rattle.rules.specs.Stores.{Stored};
-ghost use Rattle.element.specs.Kinds.{arith_of, view_of, Constants};
+ghost use Rattle.element.specs.Kinds.{format_of, arith_of, view_of, Constants};
 ghost use Rattle.element.specs.declared.kind.Kind.{Kind};
 
 use crate::kind::Kind;
@@ -70,8 +70,10 @@ pub trait Element: Copy {
         requires { at < (view_of kind).count (length (Self.Real.floats s.old)) }
         ensures { Stored (view_of kind) at (held.is self) (Self.Real.floats s.old) (Self.Real.floats s.new) };
 
-    // Nothing is lost on the way to the arithmetic and back, and the constants are the kind's.
+    // Nothing is lost on the way to the arithmetic and back, the kind's floats have its reals' format, and the constants are its own.
     ghost kept: { (x : Self) → held.of (held.is x) ≡ x };
+
+    ghost width: { format_of kind ≡ Self.Real.format };
 
     ghost constants: { Constants kind ROW_CHUNK DEPTH_CHUNK COLUMN_CHUNK TILE_ROWS TILE_COLUMNS REALS };
 }

@@ -14,7 +14,7 @@ pub trait Real: Copy {
     // A slice of reals as floats.
     ghost floats: { List Self → List Float };
 
-    // How long a slice is: a real takes some bytes, so the length is far below what a usize holds.
+    // How long a slice is. The size of a type parameter is unknown, so nothing bounds `s.len()` there: the bound comes with this.
     fn count(s: &[Self]) -> usize
         ensures { (result ≡ length s.now) × (result < 2 ^ 62) };
 
@@ -28,6 +28,7 @@ pub trait Real: Copy {
     fn is_zero(self) -> bool
         ensures { result ≡ eq (held.is self) +0 };
 
+    // `plus` and `times` are named apart from `Element`'s `add` and `mul`, since f32 and f64 have both traits.
     fn plus(self, y: Self) -> Self
         ensures { held.is result ≡ add format (held.is self) (held.is y) };
 

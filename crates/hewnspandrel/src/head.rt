@@ -5,7 +5,7 @@ ghost use Rattle.hewnspandrel.specs.Answers.{head_of};
 use panel::file::Header;
 use refusal::Refusal;
 
-// 0 and what the file's head says, or the refusal's number and zeros.
+// 0 and what the file's head says, or the refusal's number and zeros. A record of both: C has no Result.
 #[repr(C)]
 #[derive(Clone, Copy, Debug, PartialEq, Eq)]
 pub struct Head {

@@ -4,7 +4,7 @@ ghost use Rattle.hewnspandrel.specs.Answers.{length_of};
 
 use refusal::Refusal;
 
-// 0 and the length in elements, or the refusal's number and 0.
+// 0 and the length in elements, or the refusal's number and 0. A record of both: C has no Result.
 #[repr(C)]
 #[derive(Clone, Copy, Debug, PartialEq, Eq)]
 pub struct Length {

@@ -6,7 +6,7 @@ use crate::head::Head;
 use panel::panels::element_at;
 use panel::reader::read;
 
-// 0 and the element, or the refusal's number and a NaN.
+// 0 and the element, or the refusal's number and a NaN. A record of both: C has no Result.
 #[repr(C)]
 #[derive(Clone, Copy)]
 pub struct Element {

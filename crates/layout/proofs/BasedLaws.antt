@@ -173,7 +173,7 @@ module _ {E : Type 0} {v : View E} (ok : Lawful v) {m n : ℕ} {o : Operand} {le
       (λ i j hi hj x. same i j hi hj x ∙ ap (λ (l : ℕ). f l (c + j) x) (sym (zero-add i)))
       (subst (λ (y : Operand). Updated v (index_of y) (Block m w) g D B) at z))
 
--- ---- document 01's examples of places
+-- ---- examples of places
 
 example_down : place_of (record { base = 2; rs = negsuc 0; cs = pos 0 }) 2 0 ≡ pos 0
 unfolding place_of

@@ -203,7 +203,7 @@ pack_length_same kind m k n (Ok x) (Err y) p q = absurd (refusal_not_zero y (one
 pack_length_same kind m k n (Err x) (Ok y) p q = absurd (refusal_not_zero x (one_need m k n (number_of x) 0 p q.0))
 pack_length_same kind m k n (Err x) (Err y) p q = ap Err (same_refusal x y (one_need m k n (number_of x) (number_of y) p q))
 
--- ---- document 01's examples
+-- ---- examples of the need
 
 need_example : need_of (tiling_of F32) depth_chunk 9 300 5 ≡ 6144
 unfolding need_of round_up

@@ -24,6 +24,17 @@ const READINGS: usize = 3;
 
 const SCORES: usize = 2;
 
+// The shapes that the night's files are to have.
+const TELEMETRY: Shape = Shape {
+    rows: 4,
+    columns: 3,
+};
+
+const COEFFICIENTS: Shape = Shape {
+    rows: 3,
+    columns: 2,
+};
+
 // The pack buffer, longer than the need of every call here.
 const PACK: usize = 64;
 
@@ -70,9 +81,9 @@ fn scored(
 }
 
 fn show_scores(rt: &impl Print, scores: &Scores) -> io::Result<()> {
-    for i in 0..INVERTERS {
-        let ready = Hundredths(scores[i * SCORES]);
-        let strain = Hundredths(scores[i * SCORES + 1]);
+    for (i, row) in scores.chunks_exact(SCORES).enumerate() {
+        let ready = Hundredths(row[0]);
+        let strain = Hundredths(row[1]);
         println!(rt; "  inverter {}   ready {ready}   strain {strain}", i + 1)?;
     }
     Ok(())
@@ -94,8 +105,8 @@ fn show_need(rt: &impl Print) -> io::Result<()> {
 
 // The rule of six o'clock: no comparison with a gap holds.
 fn show_picks(rt: &impl Print, scores: &Scores) -> io::Result<()> {
-    for i in 0..INVERTERS {
-        let pick = if scores[i * SCORES] > 100.0 {
+    for (i, row) in scores.chunks_exact(SCORES).enumerate() {
+        let pick = if row[0] > 100.0 {
             "is flashed"
         } else {
             "waits"
@@ -153,15 +164,9 @@ fn take_named(
     }
 }
 
-fn is_shape(s: Shape, rows: usize, columns: usize) -> bool {
-    usize::from(s.rows) == rows && usize::from(s.columns) == columns
-}
-
 // Have telemetry, coefficients and correction the night's shapes?
 fn are_shapes(telemetry: Shape, coefficients: Shape, correction: Shape) -> bool {
-    is_shape(telemetry, INVERTERS, READINGS)
-        && is_shape(coefficients, READINGS, SCORES)
-        && is_shape(correction, INVERTERS, READINGS)
+    telemetry == TELEMETRY && coefficients == COEFFICIENTS && correction == TELEMETRY
 }
 
 // Scores, corrects and picks.

@@ -1,4 +1,4 @@
--- The numbers of the refusals, by documents 01 and 02. Definitions only.
+-- The numbers of the refusals, those of the C interface. Definitions only.
 use Rattle.std.specs.Prelude.{ℕ, Result, Ok, Err}
 use Rattle.refusal.specs.declared.Refusal.{Refusal}
 use Rattle.refusal.specs.declared.Refusal.TheVariants.{

@@ -1,4 +1,4 @@
-// Every way to be refused, by the numbers of documents 01 and 02. No counterpart in the Rust, which trusts its caller.
+// Every way to be refused, by the numbers of the C interface. No counterpart in the Rust, which trusts its caller.
 #![tactic(auto)]
 
 ghost use Rattle.std.specs.Prelude.{◌≡◌};
@@ -26,6 +26,7 @@ pub enum Refusal {
 }
 
 impl Refusal {
+    // By name, no `From`: the `u64::from` of a refusal would not say that it is the number of the C interface.
     pub fn number(self) -> u64
         ensures { result ≡ number_of self }
     {
@@ -74,7 +75,7 @@ impl fmt::Display for Refusal {
 
 impl Error for Refusal {}
 
-// A call's answer as a number: 0 for done, or the refusal's.
+// A call's answer as a number: 0 for done, or the refusal's. No `From`: both types, a number and a Result, are std's.
 pub fn answer_number(answer: Result<(), Refusal>) -> u64
     ensures { result ≡ answer_number answer }
 {

@@ -105,7 +105,8 @@ fn replay_words(rt: &impl Print, words: &[u64], bytes: usize) -> io::Result<()> 
     summarise(rt, &words[..count])
 }
 
-// Reads a file into words, 512 at a time, and answers how many bytes it has, or how many were read where it is longer.
+// Reads a file into words, 512 at a time, and answers how many bytes it has, or how many were read where it is longer: the last where
+// the number of words is a multiple of 512, as that of `replay_file` is.
 fn read_words(file: &mut impl Read, words: &mut [u64]) -> io::Result<usize> {
     let mut bytes = [0u8; 4096];
     for (i, block) in words.chunks_exact_mut(512).enumerate() {

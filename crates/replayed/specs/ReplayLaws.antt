@@ -1,12 +1,13 @@
 -- What running a recorded call and comparing it come to, for every kind. Assumes nothing.
 use Rattle.std.specs.Prelude.{ℕ, ◌<◌, ◌≤◌, ◌≡◌, List, Float, length, get_or, take, drop, replicate}
 use Rattle.std.specs.Prelude.{Result, Ok, Err}
-use Rattle.std.proofs.Common.{sym, ap, ◌∙◌, subst, arith, length-take-le}
+use Rattle.std.proofs.Common.{refl, sym, ap, ◌∙◌, subst, arith, length-take-le}
 use Rattle.std.specs.Float.{Format}
 use Rattle.std.proofs.lemmas.List.{length-replicate}
 use Rattle.refusal.specs.declared.Refusal.{Refusal}
 use Rattle.refusal.specs.Numbers.{answer_number}
-use Rattle.element.specs.Kinds.{arith_of}
+use Rattle.element.specs.Kinds.{arith_of, view_of, format_of}
+use Rattle.element.specs.declared.kind.Kind.TheVariants.{F32, F64, C32, C64}
 use Rattle.element.specs.declared.kind.Kind.{Kind}
 use Rattle.floats.specs.Floats.{floats_of, FirstDifference}
 use Rattle.call.specs.declared.judge.Lengths.{Lengths}
@@ -15,7 +16,7 @@ use Rattle.call.specs.Call.{Call}
 use Rattle.call.specs.Outcome.{Outcome}
 use Rattle.sample.specs.declared.calls.Difference.{Difference}
 use Rattle.sample.specs.Calls.{matrices_of}
-use Rattle.replayed.specs.Replayed.{format_of, scalar_at, recorded, words_a, words_b, words_c, Ran, Compared, Replayed}
+use Rattle.replayed.specs.Replayed.{scalar_at, recorded, words_a, words_b, words_c, Ran, Compared, Replayed}
 
 -- the entry point of k was handed the call that the words hold, which is of this kind
 pub ran_by : {k kind : Kind} → k ≡ kind → (w : List ℕ) {q : Matrices} {alpha beta : (arith_of k).E} {A B C D P Q : List Float}
@@ -24,6 +25,28 @@ pub ran_by : {k kind : Kind} → k ≡ kind → (w : List ℕ) {q : Matrices} {a
 ran_by {k} e w {A = A} {B} {C} {D} {P} {Q} {r} f g h o =
     subst (λ (z : Kind). Ran z w A B C D P Q r) e
     (subst (λ (q : Call k). Outcome q A B C D P Q r) (λ i. record { over = f i; alpha = g i; beta = h i }) o)
+
+-- ---- alpha or beta is the first element of the two floats that its words hold
+
+has_first : (kind : Kind) → 0 < (view_of kind).count 2
+has_first F32 = omega arith
+has_first F64 = omega arith
+has_first C32 = omega arith
+has_first C64 = omega arith
+
+first_is : (kind : Kind) (w : List ℕ) (i : ℕ) → (view_of kind).get (floats_of (format_of kind) 2 (drop i w)) 0 ≡ scalar_at kind w i
+first_is F32 w i = refl
+first_is F64 w i = refl
+first_is C32 w i = refl
+first_is C64 w i = refl
+
+module _ (kind : Kind) (f : Format) (words : List ℕ) {parts : List Float} (a : parts ≡ floats_of f 2 words) where
+  pub scalar_there : 0 < (view_of kind).count (length parts)
+  scalar_there = subst (λ (s : List Float). 0 < (view_of kind).count (length s)) (sym a) (has_first kind)
+
+  pub scalar_by : format_of kind ≡ f → (w : List ℕ) (i : ℕ) → words ≡ drop i w → (view_of kind).get parts 0 ≡ scalar_at kind w i
+  scalar_by e w i b =
+      ap (λ (s : List Float). (view_of kind).get s 0) (a ∙ (λ j. floats_of (sym e j) 2 (b j))) ∙ first_is kind w i
 
 -- ---- what the comparison found
 

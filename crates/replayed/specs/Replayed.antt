@@ -3,7 +3,7 @@ use Rattle.std.specs.Prelude.{ℕ, ◌<◌, ◌≡◌, List, Float, length, get_
 use Rattle.std.specs.Float.{nan, Format, binary32, binary64}
 use Rattle.refusal.specs.declared.Refusal.{Refusal}
 use Rattle.refusal.specs.Numbers.{answer_number}
-use Rattle.element.specs.Kinds.{arith_of}
+use Rattle.element.specs.Kinds.{arith_of, format_of}
 use Rattle.element.specs.declared.kind.Kind.{Kind}
 use Rattle.element.specs.declared.kind.Kind.TheVariants.{F32, F64, C32, C64}
 use Rattle.floats.specs.Floats.{float_of, floats_of, complex_of, FirstDifference}
@@ -12,13 +12,6 @@ use Rattle.call.specs.Call.{Call}
 use Rattle.call.specs.Outcome.{Outcome}
 use Rattle.sample.specs.declared.calls.Difference.{Difference}
 use Rattle.sample.specs.Calls.{matrices_of, length_at}
-
--- the format of a kind's floats
-abbrev pub format_of : Kind → Format
-format_of F32 = binary32
-format_of F64 = binary64
-format_of C32 = binary32
-format_of C64 = binary64
 
 -- alpha or beta, whose parts stand at an index and behind it; a real one is the first of them
 abbrev pub scalar_at : (kind : Kind) → List ℕ → ℕ → (arith_of kind).E

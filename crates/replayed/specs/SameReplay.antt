@@ -4,6 +4,7 @@ use Rattle.std.proofs.Common.{sym, ap, ◌∙◌, subst}
 use Rattle.std.specs.Float.{Format}
 use Rattle.refusal.specs.declared.Refusal.{Refusal}
 use Rattle.refusal.specs.Numbers.{answer_number}
+use Rattle.element.specs.Kinds.{format_of}
 use Rattle.element.specs.declared.kind.Kind.{Kind}
 use Rattle.floats.specs.SameDifference.{first_difference_same}
 use Rattle.call.specs.declared.judge.Lengths.{Lengths}
@@ -13,7 +14,7 @@ use Rattle.call.specs.Outcome.{Leaves, Outcome}
 use Rattle.call.specs.OneOutcome.{one_left, verdict_one}
 use Rattle.call.proofs.PieceLaws.{does_same}
 use Rattle.sample.specs.declared.calls.Difference.{Difference}
-use Rattle.replayed.specs.Replayed.{format_of, recorded, Compared, Replayed}
+use Rattle.replayed.specs.Replayed.{recorded, Compared, Replayed}
 
 -- the number and the end of C's slice do not depend on what the pack buffer held
 left_same : {kind : Kind} (q : Call kind) (A B C D D' P P' Q Q' : List Float) (r r' : Result Unit Refusal) → length P ≡ length P'

@@ -1,17 +1,19 @@
 // A recorded call, run again through our entry point and compared with what the Rust crate did.
 #![tactic(auto)]
 
-ghost use Rattle.std.specs.Prelude.{◌*◌, ◌^◌, ◌<◌, length};
+ghost use Rattle.std.specs.Prelude.{◌≡◌, ◌*◌, ◌^◌, ◌<◌, length};
 ghost use Rattle.std.specs.Mem.{type_size};
-ghost use Rattle.replayed.specs.Replayed.{lengths_of, pack_of, Ran, Compared, Replayed};
+ghost use Rattle.replayed.specs.Replayed.{scalar_at, lengths_of, pack_of, Ran, Compared, Replayed};
 
-use crate::scalar::Scalar;
 use element::complex::{Complex32, Complex64};
+use element::elements::Element;
 use element::kind::Kind;
 use element::real::Real;
 use floats::patterns::Patterns;
 use floats::{fill, first_difference};
 use gemm::gemm::gemm;
+use kernel::kernels::Kernel;
+use packing::packs::Packs;
 use refusal::{Refusal, answer_number};
 use sample::calls::{
     A_LENGTH, ALPHA, B_LENGTH, BETA, C_LENGTH, Difference, FLOATS, PACK_LENGTH, length_at,
@@ -19,22 +21,35 @@ use sample::calls::{
 };
 use words::{after, word_at};
 
-mod scalar;
+// The number whose parts stand at an index and behind it; a real one is the first of them.
+fn scalar_at<T: Element>(call: &[u64], at: usize) -> T
+where
+    T::Real: Patterns,
+    requires { 2 * type_size T.Real.row < 2 ^ 63 }
+    ensures { T.held.is result ≡ scalar_at T.kind call.now at }
+{
+    let mut parts = [T::Real::zero(); 2];
+    fill(after(call, at), &mut parts);
+    T::read(&parts, 0)
+}
 
 // Our answer to a call.
-fn answer<T: Scalar>(
+fn answer<T: Kernel + Packs>(
     call: &[u64],
     a: &[T::Real],
     b: &[T::Real],
     c: &mut [T::Real],
     pack: &mut [T::Real],
 ) -> Result<(), Refusal>
+where
+    T::Real: Patterns,
+    requires { 2 * type_size T.Real.row < 2 ^ 63 }
     ensures { Ran T.kind call.now (T.Real.floats a.now) (T.Real.floats b.now)
         (T.Real.floats c.old) (T.Real.floats c.new) (T.Real.floats pack.old) (T.Real.floats pack.new) result }
 {
     let q = matrices_of(call);
-    let alpha = T::scalar_at(call, ALPHA);
-    let beta = T::scalar_at(call, BETA);
+    let alpha = scalar_at::<T>(call, ALPHA);
+    let beta = scalar_at::<T>(call, BETA);
     gemm(q.m, q.k, q.n, alpha, a, q.a, b, q.b, beta, c, q.c, pack)
 }
 
@@ -54,7 +69,7 @@ fn compared<R: Patterns>(number: u64, c: &[R], recorded: &[u64]) -> Result<(), D
 }
 
 // What a call comes to, with room for its slices.
-fn replay_in<T: Scalar>(
+fn replay_in<T: Kernel + Packs>(
     call: &[u64],
     a: &mut [T::Real],
     b: &mut [T::Real],
@@ -63,6 +78,7 @@ fn replay_in<T: Scalar>(
 ) -> Result<(), Difference>
 where
     T::Real: Patterns,
+    requires { 2 * type_size T.Real.row < 2 ^ 63 }
     ensures { Replayed T.kind call.now (length pack.old)
         (record { a = length a.old; b = length b.old; c = length c.old }) result }
 {
@@ -74,7 +90,7 @@ where
 }
 
 // What a call comes to, as one of the kind of T. There is no heap: an array is as long as a call's slices may be.
-fn replay_as<T: Scalar>(call: &[u64]) -> Result<(), Difference>
+fn replay_as<T: Kernel + Packs>(call: &[u64]) -> Result<(), Difference>
 where
     T::Real: Patterns,
     requires { 4096 * type_size T.Real.row < 2 ^ 63 }

@@ -49,7 +49,7 @@ impl fmt::Display for Difference {
     }
 }
 
-// The word of a kind: 0 to 3 for sgemm, dgemm, cgemm and zgemm.
+// The word of a kind: 0 to 3 for sgemm, dgemm, cgemm and zgemm. No `From<Kind> for u64`: both types are foreign to this crate.
 pub fn word_of(kind: Kind) -> u64
     ensures { result ≡ word_of kind }
 {
@@ -61,7 +61,7 @@ pub fn word_of(kind: Kind) -> u64
     }
 }
 
-// The kind of a call, where its first word is that of one.
+// The kind of a call, where its first word is that of one. No `TryFrom`: a slice of words and `Kind` are both foreign to this crate.
 pub fn kind_of(call: &[u64]) -> Option<Kind>
     ensures { MatchOption result (4 ≤ get_or call.now 0 0) (λ kind. get_or call.now 0 0 ≡ word_of kind) }
 {

@@ -30,7 +30,7 @@ pub fn read_full<R: Read>(file: &mut R, buffer: &mut [u8]) -> io::Result<usize>
     Ok(done)
 }
 
-// A float by its bits, or nan.
+// A float by its bits, or nan. Each real has an impl of its own: a trait of bits and digits, met twice, would be longer than both.
 #[derive(Clone, Copy)]
 pub struct Bits<F>(pub F);
 

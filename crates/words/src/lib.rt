@@ -51,7 +51,7 @@ pub fn after(words: &[u64], n: usize) -> &[u64]
     words.get(n..).unwrap_or(&[])
 }
 
-// The whole number that a word stands for in two's complement.
+// The whole number that a word stands for in two's complement. No `From`: both types are std's.
 pub fn signed(word: u64) -> isize
     ensures { result ≡ to_z w64 word }
 {

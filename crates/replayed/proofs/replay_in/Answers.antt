@@ -6,6 +6,6 @@ use Rattle.replayed.proofs.replay_in.Goals as goal
 
 pub returns : goal.returns
 returns g c =
-    replayed_by g.met.T.Scalar.width c.args.call.now _
+    replayed_by g.met.T.Element.width c.args.call.now _
     c.after.ensures c.fill-b_words.ensures c.fill-c_words.ensures c.fill-recorded.ensures
     (length_floats g.met.T.Real.Real.each c.args.pack.now) c.answer-r.ensures c.answer_number.ensures c.compared.ensures
