@@ -13,7 +13,8 @@ use element::fate::Fate;
 use layout::operand::Operand;
 
 pub trait Kernel: Element {
-    // One tile of C, from two packed panels of depth kc: what is past its rows and columns is dropped.
+    // One tile of C, from two packed panels of depth kc: what is past its rows and columns is dropped. C comes as its slice and operand, here
+    // and in the loops: where a trait's method takes a struct of both over Self, an impl gets no proof (`packing::packs`).
     fn masked_kernel(
         kc: usize,
         alpha: Self,

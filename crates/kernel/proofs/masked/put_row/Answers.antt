@@ -28,7 +28,8 @@ loop-j-preserved g c =
             (agreeing (view_of kind) (index_of a.lc) (λ i k o x. let e : j ≡ k = omega arith in
             let b : j < length a.ab = omega arith in
             ap (λ (z : g.row.T.Denot). put (arith_of kind) fate (held.is z) x) (w.index-ab-j.is ∙ get_or_default a.ab j _ held.none b)
-            ∙ ap (λ (z : ℕ). f i z x) e) (w.update.ensures (put (arith_of kind) fate (held.is w.index-ab-j.result)) (λ x y made. search (rules, made))))),
+            ∙ ap (λ (z : ℕ). f i z x) e)
+            (w.update.ensures (put (arith_of kind) fate (held.is w.index-ab-j.result)) (λ x y made. search (rules, made))))),
       )
       | else-j-cols w ↦
           let e : min j a.cols ≡ min (j + 1) a.cols = omega arith in (c.loop-j.invariant.0, rw w.c-is (rw e at c.loop-j.invariant.1))

@@ -23,4 +23,5 @@ returns g c =
     ∙ sym (g.met.R.Real.kept (get_or s (i + k) d))
     ∙ ap held.of (sym (get_floats g.met.R.Real.each s (i + k) d)
     ∙ ap (λ (z : Float). get_or (r.floats s) (i + k) z) (held.back nan)) in
-    filled_all d n _ x n (record { long = omega (arith, c.copy_from_slice.ensures.len); upto = omega arith; made = read; left = λ k l. refl }) (omega arith)
+    filled_all d n _ x n
+    (record { long = omega (arith, c.copy_from_slice.ensures.len); upto = omega arith; made = read; left = λ k l. refl }) (omega arith)
