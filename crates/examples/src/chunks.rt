@@ -32,9 +32,10 @@ pub fn six_to_eight(rt: &impl Print) -> io::Result<()> {
         a: &earlier,
         ..seven
     };
-    six.run(rt, &mut [f32::NAN])?;
-    seven.run(rt, &mut [f32::NAN])?;
-    eight.run(rt, &mut [f32::NAN])
+    let mut pack = [0.0f32; 3072];
+    six.run(rt, &mut [f32::NAN], &mut pack)?;
+    seven.run(rt, &mut [f32::NAN], &mut pack)?;
+    eight.run(rt, &mut [f32::NAN], &mut pack)
 }
 
 pub fn nine(rt: &impl Print) -> io::Result<()> {
@@ -47,5 +48,5 @@ pub fn nine(rt: &impl Print) -> io::Result<()> {
         b: &ones,
         beta: 2.0,
     };
-    nine.run(rt, &mut [3.0])
+    nine.run(rt, &mut [3.0], &mut [0.0; 3072])
 }

@@ -1,7 +1,4 @@
 // P11 and P12 in either complex kind. Each number's parts are f32s, which either holds.
-ghost use Rattle.std.specs.Prelude.{◌≤◌};
-ghost use Rattle.std.specs.Mem.{type_size};
-
 use crate::example::{Entry, Example};
 use element::complex::Complex;
 use element::real::Real;
@@ -13,7 +10,6 @@ pub fn both<R: Real + From<f32>>(rt: &impl Print) -> io::Result<()>
 where
     Complex<R>: Entry<Real = R>,
     Bits<R>: fmt::Display,
-    requires { type_size R.row ≤ 8 }
 {
     let eleven = Example {
         name: "P11",
@@ -33,6 +29,8 @@ where
         beta: Complex::one(),
         ..eleven
     };
-    eleven.run(rt, &mut [R::from(f32::NAN), R::from(f32::NAN)])?;
-    twelve.run(rt, &mut [R::from(0.0), R::from(f32::INFINITY)])
+    let mut pack = [R::zero(); 12];
+    let nan = R::from(f32::NAN);
+    eleven.run(rt, &mut [nan, nan], &mut pack)?;
+    twelve.run(rt, &mut [R::from(0.0), R::from(f32::INFINITY)], &mut pack)
 }

@@ -1,9 +1,9 @@
 // One element of C by any entry point: what the examples share.
 ghost use Rattle.std.specs.Prelude.{◌≤◌};
+ghost use Rattle.std.proofs.Common.{rules};
 ghost use Rattle.std.specs.Mem.{type_size};
 
 use element::complex::{Complex32, Complex64};
-use element::real::Real;
 use gemm::gemm::gemm;
 use kernel::kernels::Kernel;
 use layout::operand::Operand;
@@ -22,22 +22,33 @@ pub const UNIT: Operand = Operand {
 // An element kind, by the name of its entry point.
 pub trait Entry: Kernel + Packs {
     const NAME: &'static str;
+
+    // A real takes at most 8 bytes, so that an array of them fits in memory.
+    ghost small: { type_size Self.Real.row ≤ 8 };
 }
 
 impl Entry for f32 {
     const NAME: &'static str = "sgemm";
+
+    ghost small = { Prim.search rules };
 }
 
 impl Entry for f64 {
     const NAME: &'static str = "dgemm";
+
+    ghost small = { Prim.search rules };
 }
 
 impl Entry for Complex32 {
     const NAME: &'static str = "cgemm";
+
+    ghost small = { Prim.search rules };
 }
 
 impl Entry for Complex64 {
     const NAME: &'static str = "zgemm";
+
+    ghost small = { Prim.search rules };
 }
 
 // One element: k depth steps of a and b.
@@ -55,13 +66,10 @@ impl<'a, T: Entry> Example<'a, T>
 where
     Bits<T::Real>: fmt::Display,
 {
-    // Over old C. A real takes at most 8 bytes, so that an array of them fits in memory: here, and below.
-    pub fn run(&self, rt: &impl Print, c: &mut [T::Real]) -> io::Result<()>
-        requires { type_size T.Real.row ≤ 8 }
-    {
-        let mut pack = [T::Real::zero(); 3072];
+    // Over old C, with a pack buffer.
+    pub fn run(&self, rt: &impl Print, c: &mut [T::Real], pack: &mut [T::Real]) -> io::Result<()> {
         let r = gemm(
-            1, self.k, 1, self.alpha, self.a, UNIT, self.b, UNIT, self.beta, c, UNIT, &mut pack,
+            1, self.k, 1, self.alpha, self.a, UNIT, self.b, UNIT, self.beta, c, UNIT, pack,
         );
         report::<T>(rt, self.name, r, c)
     }

@@ -1,7 +1,4 @@
 // What both real kinds share: P1 to P5, P10, and three elements that lie downwards. Each number is an f32, which either holds.
-ghost use Rattle.std.specs.Prelude.{◌≤◌};
-ghost use Rattle.std.specs.Mem.{type_size};
-
 use crate::example::{Entry, Example, UNIT, report};
 use gemm::gemm::gemm;
 use layout::operand::Operand;
@@ -12,8 +9,8 @@ use std::{fmt, io};
 pub fn one_to_five<R: Entry<Real = R> + From<f32>>(rt: &impl Print) -> io::Result<()>
 where
     Bits<R>: fmt::Display,
-    requires { type_size R.row ≤ 8 }
 {
+    let mut pack = [R::from(0.0); 12];
     for (name, k, alpha, beta, old) in [
         ("P1", 1, 2.0, 0.0, f32::NAN),
         ("P2", 1, 2.0, -0.0, f32::INFINITY),
@@ -29,7 +26,7 @@ where
             b: &[R::from(5.0)],
             beta: R::from(beta),
         };
-        example.run(rt, &mut [R::from(old)])?;
+        example.run(rt, &mut [R::from(old)], &mut pack)?;
     }
     Ok(())
 }
@@ -37,7 +34,6 @@ where
 pub fn ten<R: Entry<Real = R> + From<f32>>(rt: &impl Print) -> io::Result<()>
 where
     Bits<R>: fmt::Display,
-    requires { type_size R.row ≤ 8 }
 {
     let example = Example {
         name: "P10",
@@ -47,14 +43,13 @@ where
         b: &[R::from(1.0)],
         beta: R::from(0.0),
     };
-    example.run(rt, &mut [R::from(1.0)])
+    example.run(rt, &mut [R::from(1.0)], &mut [R::from(0.0); 12])
 }
 
 // A = 1, 2, 3 times B = 1 into three elements that lie downwards from base.
 pub fn downwards<R: Entry<Real = R> + From<f32>>(rt: &impl Print, base: usize) -> io::Result<()>
 where
     Bits<R>: fmt::Display,
-    requires { type_size R.row ≤ 8 }
 {
     let a = [R::from(1.0), R::from(2.0), R::from(3.0)];
     let zero = R::from(0.0);

@@ -1,8 +1,7 @@
 -- The answer for a place that is refused. Assumes nothing.
-use Rattle.std.proofs.Common.{◌≡◌, refl, sym, ◌∙◌, ℕ, subst, List}
+use Rattle.std.proofs.Common.{◌≡◌, sym, ◌∙◌, ℕ, subst, List}
 use Rattle.std.specs.Prelude.{Float}
-use Rattle.std.specs.Float.{binary32, binary64, nan}
-use Rattle.std.specs.Float.Ieee.{of_bits}
+use Rattle.std.specs.Float.{nan}
 use Rattle.refusal.specs.declared.Refusal.{Refusal}
 use Rattle.refusal.specs.Numbers.{number_of}
 use Rattle.refusal.proofs.NumberLaws.{refusal_not_zero}
@@ -18,8 +17,3 @@ no_element numbers s i j answer x element e says n = record {
   found = λ z. absurd (refusal_not_zero x (sym e ∙ z));
   refused = λ _. n;
 }
-
--- the NaN of either real
-pub is_nan : (of_bits binary32 2143289344 ≡ nan) × (of_bits binary64 9221120237041090560 ≡ nan)
-unfolding of_bits
-is_nan = (refl, refl)

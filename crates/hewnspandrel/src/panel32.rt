@@ -23,7 +23,7 @@ pub extern "C" fn hewn_read_f32(file: &[u8], numbers: &mut [f32]) -> Head
 }
 
 // The element at a place of a panel.
-#[tactic(auto, using(crate::proofs::PlaceLaws::no_element, crate::proofs::PlaceLaws::is_nan))]
+#[tactic(auto, using(crate::proofs::PlaceLaws::no_element, floats::specs::NanLaws::is_nan))]
 #[unsafe(no_mangle)]
 pub extern "C" fn hewn_panel_element_f32(
     numbers: &[f32],

@@ -1,2 +1,1 @@
 mod RowFloats
-mod StoreLaws

@@ -1,14 +1,22 @@
--- `store` meets its contract: a row of lanes is copied. Assumes nothing.
-use Rattle.std.proofs.Common.{◌+◌, ◌-◌, List, Float, length, length-take-le, arith, ap, ◌∙◌}
-use Rattle.rules.specs.Lists.{splice}
-use Rattle.packing.proofs.StoreLaws.{first_floats, put_floats}
+-- A lane more in each turn. Assumes nothing.
+use Rattle.std.proofs.Common.{◌≡◌, ◌+◌, arith, ap, ◌∙◌}
+use Rattle.std.proofs.lemmas.List.{get_or_default}
+use Rattle.element.specs.FloatLaws.{set_floats}
+use Rattle.loops.specs.PanelLaws.{singles_none, singles_more}
+use Rattle.loops.specs.Tiles.{at}
 use Rattle.packing.proofs.real.store.Goals as goal
 
-pub returns : goal.returns
-returns g c =
+pub loop-i-init : goal.loop-i-init
+loop-i-init g c = singles_none _ _ _
+
+pub loop-i-preserved : goal.loop-i-preserved
+loop-i-preserved g c =
     let a = c.args in
-    let each = g.met.R.Real.each in
-    put_floats each a.pack.now c.copy_from_slice.new.self a.start (a.start + a.w - a.start)
-    (omega (arith, ap length c.copy_from_slice.ensures.after, length-take-le a.w a.x (omega arith)))
-    ∙ ap (λ (t : List Float). splice (g.R.Real.floats a.pack.now) a.start t)
-    (ap g.R.Real.floats c.copy_from_slice.ensures.after ∙ first_floats each a.w a.x g.R.Real.held.none (omega arith))
+    let l = c.loop-i in
+    let held = g.R.Real.held in
+    set_floats g.met.R.Real.each l.pack (a.start + l.i) _
+    ∙ singles_more (at held a.x) (g.R.Real.floats a.pack.now) a.start l.i (omega (arith, c.requires.0)) l.invariant
+    (ap held.is (get_or_default a.x l.i _ held.none (omega (arith, c.requires.1))))
+
+pub returns : goal.returns
+returns g c = let u : c.loop-i.i ≡ c.args.w = omega arith in rw u at c.loop-i.invariant
