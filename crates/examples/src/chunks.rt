@@ -2,6 +2,8 @@
 use crate::example::Example;
 use std::io;
 
+// Apart from its caller, on whose stack the pack buffer would lie under all that follows.
+#[inline(never)]
 pub fn six_to_eight(rt: &impl Print) -> io::Result<()> {
     let ones = [1.0f32; 258];
     let mut a = [0.0f32; 258];
