@@ -1,4 +1,4 @@
--- What the code takes for a NaN is one: each real's own pattern of it, and zero by zero. Assumes nothing.
+-- The pattern that the code writes for a NaN is one, of each real; zero by zero is one too. Assumes nothing.
 use Rattle.std.specs.Prelude.{◌≡◌, refl}
 use Rattle.std.specs.Float.{Format, binary32, binary64, nan}
 use Rattle.std.specs.Float.Ieee.{div, of_bits}
